@@ -1,0 +1,91 @@
+-- Reading a payload packet by packet.
+use Rattle.std.proofs.Common.{◌≡◌, ℕ, ◌+◌, ◌<◌, ◌≤◌, List, [], ◌++◌, length, take, drop, Err, refl, sym, ap, ◌∙◌, arith}
+use Rattle.std.proofs.lemmas.List.{length-append, length-drop, length-take}
+use Rattle.rws_wire.specs.declared.fault.WireFault.{WireFault}
+use Rattle.rws_wire.specs.declared.fault.WireFault.TheVariants.{OutOfOrder, TooLarge, OutOfMemory}
+use Rattle.rws_wire.specs.declared.packet.Packet.{Packet}
+use Rattle.rws_wire.specs.declared.packet.Packet.TheVariants.{Partial, Bad, More, Last}
+use Rattle.rws_wire.specs.Numbers.{AreBytes}
+use Rattle.rws_wire.specs.Packets.{next_number, number_behind, spelling}
+use Rattle.rws_wire.specs.Payloads.{packet_of, Beginning, Nothing, Whole, Faulty, payload_behind, first_payload}
+use Rattle.rws_wire.specs.Gathering.{Gathers}
+use Rattle.rws_wire.proofs.PayloadLemmas.{behind_partial, behind_bad, behind_more, behind_last, first_payload-is, first_payload_spelled, more_fits}
+
+-- what is read behind the bytes so far is what all bytes begin with
+pub record Reads (limit first : ℕ) (bytes : List ℕ) (number : ℕ) (before rest : List ℕ) : Type 0 where
+  pub room : length before + length rest ≤ length bytes
+  pub same : payload_behind limit number before rest ≡ first_payload limit first bytes
+
+pub reads_none : (limit first : ℕ) (bytes before : List ℕ) → before ≡ [] → Reads limit first bytes first before bytes
+reads_none limit first bytes before none =
+    rw none (record { room = omega arith; same = sym (first_payload-is limit first bytes) })
+
+pub reads_partial : (limit first : ℕ) (bytes : List ℕ) (number : ℕ) (before rest : List ℕ) → Reads limit first bytes number before rest
+    → packet_of limit number (length before) rest ≡ Partial → first_payload limit first bytes ≡ Nothing
+reads_partial limit first bytes number before rest r e = sym r.same ∙ behind_partial limit number before rest e
+
+pub reads_bad : (limit first : ℕ) (bytes : List ℕ) (number : ℕ) (before rest : List ℕ) (fault : WireFault) → Reads limit first bytes number before rest
+    → packet_of limit number (length before) rest ≡ Bad fault → first_payload limit first bytes ≡ Faulty fault
+reads_bad limit first bytes number before rest fault r e = sym r.same ∙ behind_bad limit number before rest fault e
+
+pub reads_last : (limit first : ℕ) (bytes : List ℕ) (number : ℕ) (before rest : List ℕ) (size : ℕ) → Reads limit first bytes number before rest
+    → packet_of limit number (length before) rest ≡ Last size
+    → first_payload limit first bytes ≡ Whole (before ++ take size (drop 4 rest)) (next_number number) (drop size (drop 4 rest))
+reads_last limit first bytes number before rest size r e = sym r.same ∙ behind_last limit number before rest size e
+
+pub last_spelled : (limit first : ℕ) (bytes : List ℕ) (number : ℕ) (before rest : List ℕ) (size : ℕ) → AreBytes bytes → Reads limit first bytes number before rest
+    → packet_of limit number (length before) rest ≡ Last size
+    → (bytes ≡ spelling first (before ++ take size (drop 4 rest)) ++ drop size (drop 4 rest)) × (next_number number ≡ number_behind first (before ++ take size (drop 4 rest)))
+last_spelled limit first bytes number before rest size fit r e =
+    let read = first_payload_spelled limit first bytes (before ++ take size (drop 4 rest)) (next_number number) (drop size (drop 4 rest)) fit (reads_last limit first bytes number before rest size r e) in
+    (read.spelled, read.behind)
+
+pub reads_more : (limit first : ℕ) (bytes : List ℕ) (number : ℕ) (before rest : List ℕ) (size : ℕ) → Reads limit first bytes number before rest
+    → packet_of limit number (length before) rest ≡ More size
+    → Reads limit first bytes (next_number number) (before ++ take size (drop 4 rest)) (drop size (drop 4 rest))
+reads_more limit first bytes number before rest size r e =
+    let fits = more_fits limit number (length before) rest size e in
+    record {
+      room = omega (arith, r.room, length-append before (take size (drop 4 rest)), length-take size (drop 4 rest), length-drop size (drop 4 rest), length-drop 4 rest);
+      same = sym (behind_more limit number before rest size e) ∙ r.same;
+    }
+
+pub rest_shorter : (limit number before : ℕ) (rest : List ℕ) (size : ℕ) → packet_of limit number before rest ≡ More size → length (drop size (drop 4 rest)) < length rest
+rest_shorter limit number before rest size e = omega (arith, more_fits limit number before rest size e, length-drop size (drop 4 rest), length-drop 4 rest)
+
+-- the same where the bytes so far aren't kept, only their number
+pub record Looks (limit first : ℕ) (bytes : List ℕ) (number before : ℕ) (rest : List ℕ) : Type 0 where
+  pub seen : List ℕ
+  pub long : length seen ≡ before
+  pub reads : Reads limit first bytes number seen rest
+
+pub looks_none : (limit first : ℕ) (bytes : List ℕ) → Looks limit first bytes first 0 bytes
+looks_none limit first bytes = record { seen = []; long = refl; reads = reads_none limit first bytes [] refl }
+
+pub looks_partial : (limit first : ℕ) (bytes : List ℕ) (number before : ℕ) (rest : List ℕ) → Looks limit first bytes number before rest
+    → packet_of limit number before rest ≡ Partial → first_payload limit first bytes ≡ Nothing
+looks_partial limit first bytes number before rest l e =
+    reads_partial limit first bytes number l.seen rest l.reads (ap (λ (n : ℕ). packet_of limit number n rest) l.long ∙ e)
+
+pub looks_more : (limit first : ℕ) (bytes : List ℕ) (number before : ℕ) (rest : List ℕ) (size : ℕ) → Looks limit first bytes number before rest
+    → packet_of limit number before rest ≡ More size
+    → Looks limit first bytes (next_number number) (before + size) (drop size (drop 4 rest))
+looks_more limit first bytes number before rest size l e =
+    let fits = more_fits limit number before rest size e in
+    let chunk : List ℕ = take size (drop 4 rest) in
+    let len : length chunk ≡ size = omega (arith, length-take size (drop 4 rest), length-drop 4 rest) in
+    record {
+      seen = l.seen ++ chunk;
+      long = length-append l.seen chunk ∙ omega (arith, l.long);
+      reads = reads_more limit first bytes number l.seen rest size l.reads (ap (λ (n : ℕ). packet_of limit number n rest) l.long ∙ e);
+    }
+
+-- a fault that was read is given
+pub gathers_bad : (fault : WireFault) (beginning : Beginning) → beginning ≡ Faulty fault → Gathers (Err fault) beginning
+gathers_bad (OutOfOrder want got) beginning e = e
+gathers_bad (TooLarge length) beginning e = e
+gathers_bad OutOfMemory beginning e = tt
+
+-- an answer of `packet_of` at the number of bytes so far
+pub at_length : (limit number n : ℕ) (before rest : List ℕ) (p : Packet) → n ≡ length before → p ≡ packet_of limit number n rest → packet_of limit number (length before) rest ≡ p
+at_length limit number n before rest p same e = ap (λ (k : ℕ). packet_of limit number k rest) (sym same) ∙ sym e

@@ -1,0 +1,14 @@
+use Rattle.std.proofs.Common.{sym}
+use Rattle.rws_wire.proofs.GatheringLemmas.{looks_none, looks_partial, looks_more}
+use Rattle.rws_wire.proofs.gathering.is_ready.Goals as goal
+
+pub packets-init : goal.packets-init
+packets-init c = looks_none c.args.limit c.args.first c.args.bytes.now
+
+pub returns-in-Partial : goal.returns-in-Partial
+returns-in-Partial c = λ _. looks_partial c.args.limit c.args.first c.args.bytes.now c.packets.number c.packets.before c.packets.rest.now c.packets.invariant (sym c.in-Partial.ensures)
+
+pub packets-preserved : goal.packets-preserved
+packets-preserved c =
+    rw c.split_packet.ensures.behind
+    (looks_more c.args.limit c.args.first c.args.bytes.now c.packets.number c.packets.before c.packets.rest.now c.in-More.size c.packets.invariant (sym c.in-More.ensures))

@@ -1,0 +1,7 @@
+pub mod Numbers
+pub mod Lenenc
+pub mod LenencRead
+pub mod Packets
+pub mod Payloads
+pub mod Deframing
+pub mod Gathering

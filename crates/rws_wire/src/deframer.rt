@@ -1,0 +1,116 @@
+// Payloads out of bytes that come in pieces.
+ghost use Rattle.std.specs.Prelude.{◌≡◌, ◌++◌, List, ℕ, [], length, None, OnOk, OnErr, IfOk, IfSome};
+ghost use Rattle.rws_wire.specs.Deframing.{Answers};
+ghost use Rattle.rws_wire.specs.Gathering.{IsSpelled};
+
+use crate::gathering::{gather, is_ready};
+use crate::{Payload, WireFault};
+use std::alloc::{AllocError, Global};
+use std::marker::Model;
+
+/// Takes the bytes of a stream in pieces and gives its payloads.
+///
+/// A piece is copied once into a buffer, and each payload once out of it when it is whole. What was handed out
+/// is cut off the buffer when it is more than what is left, so the moves cost no more than the bytes that were
+/// fed; asking for a payload that isn't whole reads a header for each 16 MiB of it. So the cost grows as the
+/// bytes do, however they are cut into pieces. The buffer keeps the room of the most bytes that it held.
+#[derive(Debug, Drop)]
+pub struct Deframer {
+    alloc: Global,
+    limit: u64,
+    bytes: Vec<u8>,
+    start: usize,
+    stopped: Option<WireFault>,
+}
+
+impl Model for Deframer {
+    ghost use Rattle.std.specs.Prelude.{◌≤◌, drop, length};
+    ghost use Rattle.rws_wire.specs.Deframing.{Deframing};
+
+    ghost Value = { Deframing };
+
+    ghost view = { λ d. record { limit = d.limit; held = drop d.start d.bytes.items; stopped = d.stopped } };
+
+    ghost invariant = { λ d. d.start ≤ length d.bytes.items };
+}
+
+impl Deframer {
+    /// No bytes as yet; a payload may have as many bytes as the limit says. This takes no memory.
+    pub fn new(alloc: Global, limit: u64) -> Deframer
+        ensures { result ≡ record { limit = limit; held = []; stopped = None } }
+    {
+        Deframer {
+            alloc,
+            limit,
+            bytes: Vec::new(alloc),
+            start: 0,
+            stopped: None,
+        }
+    }
+
+    /// How many bytes were fed and not handed out in payloads, packet headers included.
+    pub fn held(&self) -> u64
+        ensures { result ≡ length self.now.held }
+    {
+        (self.bytes.len() - self.start) as u64
+    }
+
+    /// Takes the next bytes of the stream. `Err` changes nothing.
+    pub fn feed(&mut self, piece: &[u8]) -> Result<(), AllocError>
+        ensures ok { OnOk result (self.new ≡ record self.old { held = self.old.held ++ piece.now }) }
+        ensures err { OnErr result (self.new ≡ self.old) }
+    {
+        self.compact();
+        self.bytes.extend_from_slice(piece)
+    }
+
+    /// The payload that the held bytes begin with, if its first packet is to have the number `first`; None where
+    /// they begin with no whole payload and no fault. A fault shows at the fourth byte of a header: a wrong number
+    /// first, then a length that lifts the payload above the limit. After a fault every call answers it again.
+    pub fn next_payload(&mut self, first: u8) -> Result<Option<Payload>, WireFault>
+        ensures answer { Answers self.old first result self.new }
+
+        // The bytes of a payload that was given are its one spelling.
+        ensures spelled { IfOk result (λ found. IfSome found (IsSpelled self.old.held first self.new.held)) }
+    {
+        match self.stopped {
+            Some(fault) => Err(fault),
+            None => self.read_payload(first),
+        }
+    }
+
+    fn read_payload(&mut self, first: u8) -> Result<Option<Payload>, WireFault>
+        requires { self.old.stopped ≡ None }
+        ensures answer { Answers self.old first result self.new }
+        ensures spelled { IfOk result (λ found. IfSome found (IsSpelled self.old.held first self.new.held)) }
+    {
+        let held = &self.bytes[self.start..];
+        if !is_ready(held, first, self.limit) {
+            return Ok(None);
+        }
+        match gather(self.alloc, held, first, self.limit) {
+            Ok(None) => Ok(None),
+            Ok(Some((payload, behind))) => {
+                self.start = self.bytes.len() - behind.len();
+                Ok(Some(payload))
+            }
+            Err(WireFault::OutOfMemory) => Err(WireFault::OutOfMemory),
+            Err(fault) => {
+                self.stopped = Some(fault);
+                Err(fault)
+            }
+        }
+    }
+
+    // Cuts off what was handed out, where that is more than what is left.
+    fn compact(&mut self)
+        ensures { self.new ≡ self.old }
+    {
+        let left = self.bytes.len() - self.start;
+        if self.start > left {
+            self.bytes.copy_within(self.start.., 0);
+            self.bytes.truncate(left);
+            self.start = 0;
+        }
+    }
+}

@@ -1,0 +1,32 @@
+// Bytes on the wire: texts, packets and payloads, length-encoded integers, and the words that several
+// crates share for the end of a session or a link.
+#![tactic(auto)]
+
+mod close_reason;
+mod deframer;
+mod drop_cause;
+mod fault;
+mod framing;
+mod gathering;
+mod lenenc;
+mod mode;
+mod packet;
+mod payload;
+mod payload_list;
+mod text;
+mod text_list;
+
+pub use close_reason::CloseReason;
+pub use deframer::Deframer;
+pub use drop_cause::DropCause;
+pub use fault::WireFault;
+pub use framing::frame;
+pub use lenenc::{LenencFault, put_lenenc, read_lenenc, split_lenenc};
+pub use mode::Mode;
+pub use payload::Payload;
+pub use payload_list::PayloadList;
+pub use text::Text;
+pub use text_list::TextList;
+
+#[cfg(test)]
+mod tests;
