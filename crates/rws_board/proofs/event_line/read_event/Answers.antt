@@ -1,0 +1,15 @@
+use Rattle.std.proofs.Common.{◌≡◌, ℕ, ◌<◌, ◌==◌, List, [], ◌∷◌, length, None, refl, sym, arith}
+use Rattle.std.proofs.lemmas.List.Splits.{length-slice_split}
+use Rattle.rws_board.specs.EventLine.{words_of, event_of}
+use Rattle.rws_board.proofs.event_line.read_event.Goals as goal
+
+-- four words and more say no event
+more_words : (verb subject object : List ℕ) (words : List (List ℕ)) → 0 < length words → event_of (verb ∷ subject ∷ object ∷ words) ≡ None
+more_words verb subject object [] some = absurd (omega arith)
+more_words verb subject object (word ∷ words) some = refl
+
+pub returns-in-Some-split_word-2 : goal.returns-in-Some-split_word-2
+returns-in-Some-split_word-2 c =
+    let last = c.in-Some-split_word-2.field-0.1.now in
+    let count = length-slice_split (λ byte. byte == 32) last in
+    rw (c.in-Some.ensures, c.in-Some-split_word.ensures, c.in-Some-split_word-2.ensures) (sym (more_words c.in-Some.verb.now c.in-Some-split_word.subject.now c.in-Some-split_word-2.field-0.0.now (words_of last) (omega arith)))

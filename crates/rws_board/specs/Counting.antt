@@ -1,0 +1,9 @@
+-- What holds of a place in a trace.
+use Rattle.std.specs.Prelude.{◌<◌, ◌≤◌}
+use Rattle.rws_board.specs.declared.event_line.TheConstants.{LAST_LINE}
+use Rattle.rws_board.specs.declared.place.Place.{Place}
+
+-- lines are counted up to the last, and each event has a line of its own
+pub record IsCounted (place : Place) : Type 0 where
+  pub line : place.number ≤ LAST_LINE
+  pub events : place.events < place.number

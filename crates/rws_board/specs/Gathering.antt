@@ -1,0 +1,36 @@
+-- How a line is gathered from pieces.
+use Rattle.std.specs.Prelude.{◌≡◌, ℕ, ◌<◌, ◌≤◌, ◌==◌, false, List, [], ◌∷◌, ◌++◌, length, All, Option, Some, None}
+use Rattle.rws_board.specs.Lines.{lines_of}
+use Rattle.rws_board.specs.Reading.{IsFound}
+use Rattle.rws_board.specs.declared.event_line.TheConstants.{MAX_LINE}
+use Rattle.rws_board.specs.declared.found.Found.{Found}
+use Rattle.rws_board.specs.declared.line_reader.Gathered.{Gathered}
+use Rattle.rws_board.specs.declared.line_reader.Gathered.TheVariants.{Line, TooLong, More}
+
+-- no line ends in these bytes
+abbrev pub IsFeedless : List ℕ → Type 0
+IsFeedless bytes = All (λ byte. (byte == 10) ≡ false) bytes
+
+-- the front of a line, or the whole of it, that isn't too long
+pub record IsPart (line : List ℕ) : Type 0 where
+  pub feedless : IsFeedless line
+  pub short : length line ≤ MAX_LINE
+
+-- the bytes begin with a line that is too long
+pub record IsTooLong (bytes : List ℕ) : Type 0 where
+  pub front : List ℕ
+  pub rest : List ℕ
+  pub parts : bytes ≡ front ++ rest
+  pub feedless : IsFeedless front
+  pub long : MAX_LINE < length front
+
+-- what a piece, behind the line's front, makes of the line and of itself
+abbrev pub Gathers : Gathered → List ℕ → List ℕ → List ℕ → List ℕ → Type 0
+Gathers Line line piece line' piece' = line ++ piece ≡ line' ++ 10 ∷ piece'
+Gathers TooLong line piece line' piece' = IsTooLong (line ++ piece)
+Gathers More line piece line' piece' = (line ++ piece ≡ line') × (piece' ≡ []) × (length line < length line')
+
+-- what is found behind the line's front, if that is known yet
+abbrev pub Advances : Option Found → List ℕ → List ℕ → List ℕ → List ℕ → Type 0
+Advances None line before line' after = line ++ before ≡ line' ++ after
+Advances (Some found) line before line' after = IsFound found line' (lines_of (line ++ before)) (lines_of after)

@@ -1,0 +1,20 @@
+// What a worker is told.
+
+use rws_wire::Text;
+
+/// What happened outside a worker.
+#[derive(Debug, Drop, PartialEq, Eq)]
+pub enum Event {
+    /// A session begins in the command phase, with a ready link to this server of the settings.
+    Begin { session: u32, server: u8 },
+    /// Bytes came from the client.
+    ClientBytes { session: u32, bytes: Text },
+    /// The client closed its connection.
+    ClientGone { session: u32 },
+    /// Bytes came from the server.
+    LinkBytes { link: u64, bytes: Text },
+    /// The server closed its connection.
+    LinkGone { link: u64 },
+    /// Nothing more comes.
+    End,
+}

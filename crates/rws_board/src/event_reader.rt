@@ -1,0 +1,96 @@
+// The events of a source that holds a trace.
+ghost use Rattle.std.specs.Prelude.{◌≡◌, ◌+◌, ◌<◌, ◌≤◌, ◌≢◌, ℕ, [], None, Some, Ok, IfOk, IsErrOf};
+ghost use Rattle.std.specs.Io.KnownBytes.{IsAtEnd};
+ghost use Rattle.rws_board.specs.Counting.{IsCounted};
+ghost use Rattle.rws_board.specs.Faults.{Rises};
+ghost use Rattle.rws_board.specs.Lines.{lines_of};
+ghost use Rattle.rws_board.specs.Reading.{Ahead, IsStep, Reading, TellsNext, count_of, fresh, script_at, told_count};
+
+use crate::line_reader::LineReader;
+use crate::place::Place;
+use crate::{Event, ReadError, Source};
+use std::alloc::{AllocError, Global};
+use std::marker::Model;
+
+/// Reads the events of a trace from a source that is handed to each call. The source is read in pieces, and
+/// asked for more only where no whole line is held.
+#[derive(Drop)]
+pub struct EventReader {
+    alloc: Global,
+    lines: LineReader,
+    place: Place,
+}
+
+impl Model for EventReader {
+    ghost use Rattle.rws_board.specs.Counting.{IsCounted};
+    ghost use Rattle.rws_board.specs.Reading.{Reading};
+
+    ghost Value = { Reading };
+
+    ghost view = { λ reader. record { held = reader.lines.piece; place = reader.place } };
+
+    ghost invariant = { λ reader. IsCounted reader.place };
+}
+
+impl EventReader {
+    /// A reader at the start of a trace.
+    pub fn new(alloc: Global) -> Result<EventReader, AllocError>
+        ensures { IfOk result (λ reader. reader ≡ fresh) }
+    {
+        Ok(EventReader {
+            alloc,
+            lines: LineReader::new(alloc)?,
+            place: Place::start(),
+        })
+    }
+
+    /// Reads the next event: `End` at the end of the input and at a bad line. After an error nothing is said
+    /// of what is still to be read, and the reader is not to be used again.
+    pub fn next<I: Source>(&mut self, input: &mut I) -> Result<Event, ReadError>
+        ensures told { IfOk result (λ event. TellsNext self.old (I.left input.old) event self.new (I.left input.new)) }
+        ensures events { IfOk result (λ event. self.new.place.events ≡ self.old.place.events + count_of event) }
+        ensures end { result ≡ Ok Event.End → self.new.place.bad_line ≡ None → IsAtEnd (I.left input.new) }
+        ensures kept { I.faults input.old ≤ I.faults input.new }
+        ensures failed { IsErrOf result ReadError.Failed → Rises (I.faults input.old) (I.faults input.new) }
+    {
+        if self.place.bad_line.is_some() {
+            return Ok(Event::End);
+        }
+        'lines: loop {
+            if let Some(event) = self.step(input)? {
+                return Ok(event);
+            }
+        }
+    }
+
+    /// The number, from 1, of the bad line at which the trace stopped.
+    pub fn bad_line(&self) -> Option<u64>
+        ensures { result ≡ self.now.place.bad_line }
+    {
+        self.place.bad_line
+    }
+
+    /// How many events were told, the end left out.
+    pub fn events(&self) -> u64
+        ensures { result ≡ self.now.place.events }
+    {
+        self.place.events
+    }
+
+    // Reads the next line, and tells the event that it says, if it says one.
+    fn step<I: Source>(&mut self, input: &mut I) -> Result<Option<Event>, ReadError>
+        requires { self.old.place.bad_line ≡ None }
+        ensures told { IfOk result (λ told.
+            Ahead (λ before after. IsStep told self.new.place.bad_line (script_at self.old.place (lines_of before)) (script_at self.new.place (lines_of after)))
+            self.old.held (I.left input.old) self.new.held (I.left input.new)) }
+        ensures counted { IsCounted self.new.place }
+        ensures events { IfOk result (λ told. self.new.place.events ≡ self.old.place.events + told_count told) }
+        ensures end { result ≡ Ok (Some Event.End) → self.new.place.bad_line ≡ None → IsAtEnd (I.left input.new) }
+        ensures silent { result ≡ Ok None → (self.old.place.number < self.new.place.number) × (self.new.place.bad_line ≡ None) }
+        ensures kept { I.faults input.old ≤ I.faults input.new }
+        ensures failed { IsErrOf result ReadError.Failed → Rises (I.faults input.old) (I.faults input.new) }
+    {
+        let found = self.lines.next(input)?;
+        Ok(self.place.pass(self.alloc, found, &self.lines.line)?)
+    }
+}
