@@ -1,0 +1,12 @@
+pub mod Item
+pub mod Judging
+pub mod Values
+pub mod Rules
+pub mod Outputs
+pub mod Record
+pub mod Kept
+pub mod Turning
+pub mod Run
+pub mod Causes
+pub mod Effects
+pub mod Laws

@@ -1,0 +1,26 @@
+-- Which records can come about.
+use Rattle.std.specs.Prelude.{◌≡◌, ℕ, false, List, [], ◌∷◌, Some, None, Contains}
+use Rattle.rws_session.specs.Item.{Item}
+use Rattle.rws_session.specs.Item.Item.{Began, ClientBytes, LinkBytes, ClientGone, LinkLost}
+use Rattle.rws_session.specs.Values.{links, is_over}
+use Rattle.rws_session.specs.Rules.{next}
+
+-- what may come from outside: from the client, and from a link that the session has
+abbrev pub IsInput : Item → List Item → Type 0
+IsInput (ClientBytes bytes) past = Unit {0}
+IsInput ClientGone past = Unit {0}
+IsInput (LinkBytes link bytes) past = Contains (links past) link
+IsInput (LinkLost link) past = Contains (links past) link
+IsInput _ past = ⊥
+
+-- A record begins with a session, goes on by its own steps, and hears of the outside when it rests and isn't over.
+pub data IsRecord : List Item → Type 0 where
+  begins : (link server : ℕ) → IsRecord (Began link server ∷ [])
+  steps : {past : List Item} {item : Item} → IsRecord past → next past ≡ Some item → IsRecord (item ∷ past)
+  hears : {past : List Item} {item : Item} → IsRecord past → next past ≡ None → is_over past ≡ false → IsInput item past
+      → IsRecord (item ∷ past)
+
+-- the second record is the first after some of its own steps
+pub data GoesOn (past : List Item) : List Item → Type 0 where
+  stays : GoesOn past past
+  then : {now : List Item} {item : Item} → GoesOn past now → next now ≡ Some item → GoesOn past (item ∷ now)

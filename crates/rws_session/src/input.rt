@@ -1,0 +1,16 @@
+// What a session is told.
+
+use rws_wire::Text;
+
+/// What comes to a session from outside.
+#[derive(Debug, Drop)]
+pub enum SessionInput {
+    /// Bytes came from the client.
+    Client(Text),
+    /// The client closed its connection.
+    ClientGone,
+    /// Bytes came on a link.
+    Link { link: u64, bytes: Text },
+    /// The server closed the link.
+    LinkGone { link: u64 },
+}

@@ -1,0 +1,25 @@
+// Laws about the definitions. Each function does nothing; its contract is the law, which is proved with it.
+ghost use Rattle.rws_session.specs.Laws.{Apart, Causes, CausesInRuns, Effects, OneOutcome, OneRun, Records};
+
+/// A worker's run is determined by the events that it was given.
+pub fn one_run()
+    ensures run { OneRun }
+    ensures outcome { OneOutcome }
+{}
+
+/// What a worker's run holds of one session is a record by itself, and no session has a link of another.
+pub fn records()
+    ensures legal { Records }
+    ensures apart { Apart }
+{}
+
+/// Each reply, command, close and drop of a session has its cause in what came before it.
+pub fn causes()
+    ensures in_records { Causes }
+    ensures in_runs { CausesInRuns }
+{}
+
+/// Whatever a session is to answer, it answers before it rests.
+pub fn effects()
+    ensures { Effects }
+{}
