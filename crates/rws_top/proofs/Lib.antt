@@ -1,0 +1,9 @@
+pub mod Told
+pub mod Laws
+pub mod Lift
+pub mod Seats
+pub mod Turned
+pub mod Steps
+pub mod Fronts
+pub mod Stops
+pub mod Underway

@@ -1,0 +1,4 @@
+pub mod Worker
+pub mod Trace
+pub mod Tracing
+pub mod Causes
