@@ -1,12 +1,12 @@
 -- What holds of every legal run: numbers above the greatest, and links above the last, are unused.
-use Rattle.std.proofs.Common.{◌≡◌, ℕ, ◌+◌, ◌<◌, ◌≤◌, ◌⊎◌, ⊎_elim, Bool, true, false, max, List, [], ◌∷◌, refl, sym, ap, subst, ◌∙◌, Option, Some, None, ◌==◌, arith, if◌then◌else◌, nat_eq, option_map}
+use Rattle.std.proofs.Common.{◌≡◌, ℕ, ◌+◌, ◌<◌, ◌≤◌, ◌⊎◌, ⊎_elim, true, List, [], ◌∷◌, refl, sym, ap, subst, ◌∙◌, Option, Some, None, arith, option_map}
 use Rattle.std.proofs.lemmas.Bool.{ne_eqb, cases_eq, eq-eqb, false≢true}
 use Rattle.rws_board.specs.declared.event.Event.{Event}
 use Rattle.rws_session.specs.Item.{Item}
 use Rattle.rws_session.specs.Item.Item.{Began}
 use Rattle.rws_session.specs.Rules.{next}
-use Rattle.rws_session.specs.Run.{Entry, IsRun, record_of, is_live, begun_by, greatest, last_link, owner, told, hearer, step_of, doing}
-use Rattle.rws_session.specs.Run.Entry.{Came, Passed, Did}
+use Rattle.rws_session.specs.Run.{Entry, IsRun, record_of, is_live, begun_by, greatest, last_link, owner, hearer, step_of}
+use Rattle.rws_session.specs.Run.Entry.{Came, Did}
 use Rattle.rws_session.specs.Run.IsRun.{starts, came, passed, did}
 use Rattle.rws_top.proofs.Told.{IsBegun, IsHeard, told_is}
 

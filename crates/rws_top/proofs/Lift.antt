@@ -1,9 +1,9 @@
 -- The steps of one session are steps of the run.
-use Rattle.std.proofs.Common.{◌≡◌, ℕ, List, [], ◌∷◌, ◌++◌, refl, sym, ap, ◌∙◌, Option, Some, None, map, option_map, append_assoc}
+use Rattle.std.proofs.Common.{◌≡◌, ℕ, List, [], ◌∷◌, ◌++◌, refl, sym, ap, ◌∙◌, Option, Some, option_map, append_assoc}
 use Rattle.std.proofs.lemmas.List.{append-nil, map-append}
 use Rattle.rws_board.specs.declared.action.Action.{Action}
 use Rattle.rws_session.specs.Item.{Item}
-use Rattle.rws_session.specs.Item.Item.{Began, ClientBytes, LinkBytes, ClientGone, LinkLost, Comes, Replies, Garbles, Strays, Takes, TakesFault, Puts}
+use Rattle.rws_session.specs.Item.Item.{Puts}
 use Rattle.rws_session.specs.Values.{puts}
 use Rattle.rws_session.specs.Rules.{next}
 use Rattle.rws_session.specs.Outputs.{action_of, actions_of}

@@ -1,13 +1,13 @@
 -- Parts of what a worker stands for, one by one.
-use Rattle.std.proofs.Common.{◌≡◌, ℕ, ◌⊎◌, ⊎_elim, Bool, true, false, List, refl, sym, ap, subst, ◌∙◌, Option, Some, None, is_some, if◌then◌else◌}
-use Rattle.std.proofs.lemmas.Bool.{ne_eqb, cases_lt, le-ltb, lt-ltb, cases_eq}
+use Rattle.std.proofs.Common.{◌≡◌, ℕ, ⊎_elim, Bool, false, List, refl, sym, ap, subst, ◌∙◌, Option, Some, None, is_some, if◌then◌else◌}
+use Rattle.std.proofs.lemmas.Bool.{ne_eqb, cases_lt, le-ltb, lt-ltb}
 use Rattle.std.specs.BTreeMap.{BTreeMap, get, is_at, UpdatesBy, WritesThrough}
 use Rattle.std.specs.Ordering.{nat_cmp}
 use Rattle.rws_session.specs.Item.{Item}
 use Rattle.rws_session.specs.Kept.{Stands}
 use Rattle.rws_session.specs.Run.{Entry, record_of, is_live, owner}
 use Rattle.rws_top.specs.declared.worker.Seat.{Seat}
-use Rattle.rws_top.specs.Worker.{IsSeated, SeatStands, if_live}
+use Rattle.rws_top.specs.Worker.{SeatStands, if_live}
 
 -- one key of a map changes
 pub record Changes {X : Type 0} (old new : BTreeMap ℕ X) (key : ℕ) (value : Option X) : Type 0 where

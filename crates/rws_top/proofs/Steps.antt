@@ -1,6 +1,6 @@
 -- What the worker does with one event.
-use Rattle.std.proofs.Common.{◌≡◌, ℕ, ◌+◌, ◌<◌, ◌⊎◌, ⊎_elim, max, Bool, true, false, not, List, [], ◌∷◌, ◌++◌, refl, sym, ap, subst, ◌∙◌, Option, Some, None, option_map, arith, nat_lt, ◌&&◌, if◌then◌else◌}
-use Rattle.std.proofs.lemmas.Bool.{cases_eq, lt-ltb, false≢true}
+use Rattle.std.proofs.Common.{◌≡◌, ℕ, ◌+◌, ◌<◌, ⊎_elim, max, Bool, true, false, not, List, [], ◌∷◌, refl, sym, ap, subst, ◌∙◌, Option, Some, None, option_map, arith, nat_lt, ◌&&◌, if◌then◌else◌}
+use Rattle.std.proofs.lemmas.Bool.{cases_eq, lt-ltb}
 use Rattle.std.proofs.lemmas.List.{append-nil}
 use Rattle.std.specs.BTreeMap.{get}
 use Rattle.std.specs.Ordering.{nat_cmp}
@@ -9,10 +9,9 @@ use Rattle.rws_board.specs.declared.event.Event.{Event}
 use Rattle.rws_board.specs.declared.event.Event.TheVariants as events
 use Rattle.rws_session.specs.Item.{Item}
 use Rattle.rws_session.specs.Item.Item.{Began}
-use Rattle.rws_session.specs.Values.{is_over}
 use Rattle.rws_session.specs.Rules.{next}
-use Rattle.rws_session.specs.Kept.{Kept, Stands}
-use Rattle.rws_session.specs.Run.{Entry, IsRun, record_of, is_live, begun_by, greatest, last_link, owner, server_count, if_so, told, doing, events_of, done_in}
+use Rattle.rws_session.specs.Kept.{Stands}
+use Rattle.rws_session.specs.Run.{Entry, record_of, is_live, begun_by, greatest, last_link, owner, server_count, if_so, told, done_in}
 use Rattle.rws_session.specs.Run.Entry.{Came, Passed}
 use Rattle.rws_session.specs.Run.IsRun.{came, passed}
 use Rattle.rws_top.specs.declared.worker.Seat.{Seat}

@@ -1,5 +1,5 @@
 -- The run after a session was told something, or after nobody was.
-use Rattle.std.proofs.Common.{◌≡◌, ℕ, ◌⊎◌, ⊎_elim, Bool, true, false, not, List, [], ◌∷◌, ◌++◌, refl, sym, ap, subst, ◌∙◌, Option, Some, None, option_map, arith, if◌then◌else◌}
+use Rattle.std.proofs.Common.{◌≡◌, ℕ, ⊎_elim, Bool, true, not, List, [], ◌∷◌, ◌++◌, refl, sym, ap, subst, ◌∙◌, Option, Some, None, option_map, arith, if◌then◌else◌}
 use Rattle.std.proofs.lemmas.List.{append-nil, append_cancel_left}
 use Rattle.rws_board.specs.declared.action.Action.{Action}
 use Rattle.rws_board.specs.declared.event.Event.{Event}
@@ -12,11 +12,10 @@ use Rattle.rws_session.specs.Record.{GoesOn}
 use Rattle.rws_session.specs.Record.GoesOn.{stays, then as goes}
 use Rattle.rws_session.specs.Kept.{Kept, Stands, Settles, Turns, heard}
 use Rattle.rws_session.specs.Run.{Entry, IsRun, record_of, is_live, begun_by, greatest, last_link, owner, told, hearer, step_of, doing, events_of, done_in}
-use Rattle.rws_session.specs.Run.Entry.{Came, Passed, Did}
+use Rattle.rws_session.specs.Run.Entry.{Came, Passed}
 use Rattle.rws_session.specs.Run.IsRun.{came, passed}
 use Rattle.rws_top.specs.declared.worker.Seat.{Seat}
-use Rattle.rws_top.specs.declared.worker.Worker.{Worker}
-use Rattle.rws_top.specs.Worker.{WorkerStands, IsSeated, told_to}
+use Rattle.rws_top.specs.Worker.{IsSeated, told_to}
 use Rattle.rws_top.proofs.Told.{IsBegun, IsHeard, told_is}
 use Rattle.rws_top.proofs.Laws.{came_apart, came_here}
 use Rattle.rws_top.proofs.Lift.{Lifted, lift}

@@ -1,19 +1,17 @@
 -- How far the trace has come, and what is answered where it stops.
 use Rattle.std.proofs.Common.{◌≡◌, ℕ, ◌+◌, ◌<◌, ◌≤◌, ◌^◌, ◌⊎◌, inl, inr, List, [], ◌∷◌, ◌++◌, length, take, drop, refl, sym, ap, subst, ◌∙◌, Option, Some, None, append_assoc, arith}
 use Rattle.std.proofs.lemmas.List.{append-nil, take-append-drop, length-append}
-use Rattle.std.specs.Io.KnownBytes.{Appends, IsAtEnd}
+use Rattle.std.specs.Io.KnownBytes.{Appends}
 use Rattle.std.proofs.KnownBytes.{Appends-trans, Appends-nil}
 use Rattle.rws_board.proofs.AheadLemmas.{ahead-then}
-use Rattle.rws_board.specs.declared.action.Action.{Action}
 use Rattle.rws_board.specs.declared.event.Event.{Event}
 use Rattle.rws_board.specs.declared.event.Event.TheVariants.{Begin, ClientBytes, ClientGone, LinkBytes, LinkGone, End}
 use Rattle.rws_board.specs.declared.read_error.ReadError.{ReadError}
 use Rattle.rws_board.specs.declared.read_error.ReadError.TheVariants as errors
 use Rattle.rws_board.specs.Lines.{lines_of}
 use Rattle.rws_board.specs.Printing.{text_of}
-use Rattle.rws_board.specs.Put.{AppendsFront}
-use Rattle.rws_board.specs.Reading.{Reading, Ahead, IsNext, TellsNext, script_at, count_of, fresh}
-use Rattle.rws_board.specs.Script.{Script, ended, told_before, script_of}
+use Rattle.rws_board.specs.Reading.{Reading, IsNext, TellsNext, script_at, count_of, fresh}
+use Rattle.rws_board.specs.Script.{Script, told_before, script_of}
 use Rattle.rws_session.specs.Run.{Entry, IsRunOver, events_of, done_in}
 use Rattle.rws_session.specs.Run.IsRun.{starts}
 use Rattle.rws_top.specs.declared.stop.Stop.{Stop}
@@ -22,9 +20,9 @@ use Rattle.rws_top.specs.declared.worker.Worker.{Worker}
 use Rattle.rws_top.specs.Causes.{stop_of}
 use Rattle.rws_top.specs.Trace.{IsScript, IsWhole, IsBegun, IsFront, IsCut, Traces, AnswersTrace, closing}
 use Rattle.rws_top.specs.Trace.Traces.{finished, stopped, unread, unwritten, out_of_memory, too_many}
-use Rattle.rws_top.specs.Tracing.{HasRead, IsUnderway, Passes, PassFails, PutFails, Steps, after, closing_status, stop_status}
+use Rattle.rws_top.specs.Tracing.{HasRead, IsUnderway, Passes, PassFails, PutFails, after, closing_status, stop_status}
 use Rattle.rws_top.specs.Tracing.PassFails.{unheard, unprinted}
-use Rattle.rws_top.specs.Worker.{WorkerStands, Advances}
+use Rattle.rws_top.specs.Worker.{WorkerStands}
 use Rattle.rws_top.proofs.Fronts.{text_of_more}
 
 -- Reading

@@ -1,5 +1,4 @@
-use Rattle.std.proofs.Common.{◌≡◌, ℕ, List, sym, ap, subst, ◌∙◌, rules, take, List, arith}
-use Rattle.std.specs.Io.KnownBytes.{Appends}
+use Rattle.std.proofs.Common.{◌≡◌, ℕ, List, subst, ◌∙◌, List, arith}
 use Rattle.rws_board.specs.Printing.{action_text}
 use Rattle.rws_board.specs.Put.{AppendsFront}
 use Rattle.rws_top.specs.declared.stop.Stop.TheVariants.{Unwritten, OutOfMemory}

@@ -1,8 +1,7 @@
-use Rattle.std.proofs.Common.{◌≡◌, ℕ, List, take, drop, sym, subst, refl, ◌∙◌}
+use Rattle.std.proofs.Common.{◌≡◌, take, drop, sym, refl, ◌∙◌}
 use Rattle.std.proofs.lemmas.List.{take-append-drop}
 use Rattle.rws_board.specs.Printing.{usage_line}
-use Rattle.rws_top.specs.Trace.{AnswersUsage, Refuses, IsFront}
-use Rattle.rws_top.specs.Trace.Refuses.{told, unwritten, out_of_memory}
+use Rattle.rws_top.specs.Trace.Refuses.{unwritten}
 use Rattle.rws_top.proofs.run.refuse.Goals as goal
 
 pub returns : goal.returns

@@ -1,4 +1,4 @@
-use Rattle.std.proofs.Common.{◌≡◌, ℕ, subst, Option, Some, Ok, arith}
+use Rattle.std.proofs.Common.{ℕ, subst, Option, Ok, arith}
 use Rattle.rws_board.specs.Faults.{Rises}
 use Rattle.rws_top.specs.declared.stop.Stop.TheVariants.{OutOfMemory}
 use Rattle.rws_top.specs.Tracing.{Steps}

@@ -1,4 +1,4 @@
-use Rattle.std.proofs.Common.{ℕ, ◌-◌, ◌^◌, ◌≤◌}
+use Rattle.std.proofs.Common.{◌-◌, ◌^◌, ◌≤◌}
 use Rattle.rws_top.specs.Tracing.{IsUnderway}
 use Rattle.rws_top.proofs.run.trace.Given as goal
 

@@ -1,4 +1,4 @@
-use Rattle.std.proofs.Common.{◌≡◌, ℕ, List, ◌++◌, length}
+use Rattle.std.proofs.Common.{◌≡◌, List, ◌++◌, length}
 use Rattle.rws_session.specs.Item.{Item}
 use Rattle.rws_session.specs.Kept.{Stands}
 use Rattle.rws_top.proofs.worker.fetch_all.Given as goal

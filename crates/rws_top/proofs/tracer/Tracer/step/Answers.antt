@@ -1,8 +1,6 @@
-use Rattle.std.proofs.Common.{◌≡◌, ℕ, ◌+◌, ◌<◌, ◌^◌, List, sym, ap, subst, refl, ◌∙◌, Option, Some, None, Ok, Err, arith}
+use Rattle.std.proofs.Common.{◌+◌, ◌<◌, ◌^◌, sym, ap, subst, refl, ◌∙◌, None, Ok, Err, arith}
 use Rattle.rws_board.specs.declared.event.Event.{Event}
-use Rattle.rws_board.specs.declared.event.Event.TheVariants.{End}
 use Rattle.rws_board.specs.Reading.{Reading, TellsNext, count_of}
-use Rattle.rws_top.specs.declared.stop.Stop.{Stop}
 use Rattle.rws_top.specs.declared.stop.Stop.TheVariants.{TooManyEvents}
 use Rattle.rws_top.specs.Tracing.{IsUnderway}
 use Rattle.rws_top.proofs.Stops.{steps_err, not_ok}

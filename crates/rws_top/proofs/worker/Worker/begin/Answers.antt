@@ -1,12 +1,10 @@
-use Rattle.std.proofs.Common.{◌≡◌, ℕ, ◌+◌, ◌<◌, ◌≤◌, max, Bool, true, false, List, [], ◌∷◌, ◌++◌, refl, sym, ap, subst, ◌∙◌, Option, Some, None, arith, nat_lt, ◌&&◌, Fits, w64}
+use Rattle.std.proofs.Common.{◌≡◌, ℕ, ◌+◌, ◌≤◌, Bool, refl, ap, None, arith, nat_lt, ◌&&◌}
 use Rattle.std.proofs.lemmas.Bool.{le-ltb, and_right}
 use Rattle.rws_board.specs.declared.event.Event.TheVariants as events
-use Rattle.rws_board.specs.declared.action.Action.{Action}
 use Rattle.rws_session.specs.Item.{Item}
 use Rattle.rws_session.specs.Item.Item.{Began}
-use Rattle.rws_session.specs.Run.{Entry, greatest, last_link, server_count, if_so, told}
-use Rattle.rws_top.specs.declared.worker.Worker.{Worker}
-use Rattle.rws_top.specs.Worker.{WorkerStands, Advances}
+use Rattle.rws_session.specs.Run.{greatest, last_link, server_count, if_so, told}
+use Rattle.rws_top.specs.Worker.{WorkerStands}
 use Rattle.rws_top.proofs.Laws.{known}
 use Rattle.rws_top.proofs.Seats.{changes}
 use Rattle.rws_top.proofs.Steps.{with_actions, passes, begins}

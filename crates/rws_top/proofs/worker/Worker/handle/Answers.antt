@@ -1,5 +1,4 @@
-use Rattle.std.proofs.Common.{◌≡◌, ℕ, List, [], sym, subst, refl, None, arith}
-use Rattle.rws_board.specs.declared.action.Action.{Action}
+use Rattle.std.proofs.Common.{[], sym, subst, refl, arith}
 use Rattle.rws_board.specs.declared.event.Event.{Event}
 use Rattle.rws_board.specs.declared.event.Event.TheVariants as events
 use Rattle.rws_top.specs.Worker.{Advances}

@@ -1,13 +1,12 @@
-use Rattle.std.proofs.Common.{◌≡◌, ℕ, Bool, true, false, not, List, refl, sym, ap, subst, ◌∙◌, Option, Some, None, option_map, arith, if◌then◌else◌}
+use Rattle.std.proofs.Common.{◌≡◌, ℕ, Bool, false, refl, sym, ap, subst, ◌∙◌, Option, Some, None, option_map, arith, if◌then◌else◌}
 use Rattle.std.specs.Option.{option_copied_mut}
 use Rattle.std.specs.BTreeMap.{get}
 use Rattle.std.specs.Ordering.{nat_cmp}
 use Rattle.rws_session.specs.Item.{Item}
 use Rattle.rws_session.specs.Kept.{heard}
-use Rattle.rws_session.specs.Run.{Entry, record_of, is_live, told}
+use Rattle.rws_session.specs.Run.{record_of, is_live, told}
 use Rattle.rws_top.specs.declared.worker.Seat.{Seat}
-use Rattle.rws_top.specs.declared.worker.Worker.{Worker}
-use Rattle.rws_top.specs.Worker.{WorkerStands, Advances, IsSeated, SeatStands}
+use Rattle.rws_top.specs.Worker.{IsSeated, SeatStands}
 use Rattle.rws_top.proofs.Seats.{changes, written, then_changes}
 use Rattle.rws_top.proofs.Turned.{Turned, turned}
 use Rattle.rws_top.proofs.Steps.{with_actions, passes, keeps, forgets}

@@ -1,5 +1,5 @@
-use Rattle.std.proofs.Common.{◌≡◌, ℕ, sym, ap, ◌∙◌, refl, Option, Some, None, arith}
-use Rattle.rws_session.specs.Run.{Entry, owner, told}
+use Rattle.std.proofs.Common.{◌≡◌, ℕ, sym, ap, ◌∙◌, refl, Option, None, arith}
+use Rattle.rws_session.specs.Run.{owner, told}
 use Rattle.rws_top.specs.Worker.{if_live, told_through}
 use Rattle.rws_top.proofs.Steps.{with_actions, passes}
 use Rattle.rws_top.proofs.worker.Worker.tell_on.Goals as goal
