@@ -1,0 +1,4 @@
+pub mod Digits
+pub mod Commas
+pub mod Entries
+pub mod Spelled

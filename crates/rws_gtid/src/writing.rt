@@ -1,0 +1,34 @@
+//! Writes a GTID, and the statement that waits for one.
+
+ghost use Rattle.std.specs.Prelude.{◌≡◌, IfOk, Some};
+ghost use Rattle.rws_gtid.specs.Spelling.{gtid_text, wait_statement};
+
+use crate::Gtid;
+use rws_wire::Text;
+use std::alloc::{AllocError, Global};
+use std::fmt;
+
+impl fmt::Display for Gtid {
+    ghost output = { λ gtid. Some (gtid_text gtid) };
+
+    fn fmt<W: fmt::Write>(&self, f: &mut fmt::Formatter<W>) -> fmt::Result {
+        write!(f, "{}-{}-{}", self.domain, self.server, self.sequence)
+    }
+}
+
+/// The text of the GTID.
+pub fn print(alloc: Global, gtid: Gtid) -> Result<Text, AllocError>
+    ensures { IfOk result (λ text. text ≡ gtid_text gtid) }
+{
+    let text = gtid.to_string(alloc)?;
+    Ok(Text::new(text.into_bytes()))
+}
+
+/// The statement `SELECT MASTER_GTID_WAIT('G', T)`, by which a replica waits until it has the GTID, for at most this
+/// many seconds.
+pub fn wait_text(alloc: Global, gtid: Gtid, seconds: u32) -> Result<Text, AllocError>
+    ensures { IfOk result (λ text. text ≡ wait_statement gtid seconds) }
+{
+    let statement = format!(in alloc; "SELECT MASTER_GTID_WAIT('{gtid}', {seconds})")?;
+    Ok(Text::new(statement.into_bytes()))
+}
