@@ -1,0 +1,4 @@
+pub mod Tables
+pub mod FormLemmas
+pub mod ModeLemmas
+pub mod ClassLemmas
