@@ -1,0 +1,13 @@
+//! The pool table as a pure machine: what is known of each server, the last commit, and the events that change them.
+#![tactic(auto)]
+
+mod events;
+mod law;
+mod words;
+
+pub use events::{Entry, PoolCall, PoolEvent};
+pub use law::nothing_is_forgotten;
+pub use words::{PoolWords, Round, Seen, State};
+
+#[cfg(test)]
+mod tests;

@@ -1,0 +1,70 @@
+// The stored scoring function and the choice that rests on it.
+ghost use Rattle.std.specs.Prelude.{◌≡◌, ℕ, ◌+◌, List, Option, [], ◌∷◌, ◌++◌, length, MatchOption};
+ghost use Rattle.rws_select.specs.declared.selector.Load.{Load};
+ghost use Rattle.rws_select.specs.Choice.{IsScorer, HasScorer, HasNone, IsChoice};
+ghost use Rattle.rws_select.specs.Scored.{IsBest};
+
+/// What a worker has open to one server.
+#[derive(Clone, Copy, Debug, PartialEq, Eq)]
+pub struct Load {
+    /// Links on which a command awaits its reply.
+    pub pending: u16,
+    /// Links that are open or opening.
+    pub links: u16,
+}
+
+/// A scoring function that callers have shown to answer `pending * 65536 + links` for every load.
+#[derive(Drop)]
+pub struct Selector<F> {
+    score: F,
+}
+
+// A candidate with its score.
+#[derive(Clone, Copy)]
+struct Scored {
+    place: u8,
+    score: u64,
+}
+
+impl<F: Fn(&Load) -> u64 + Sync> Selector<F> {
+    /// Keeps the scoring function.
+    pub fn new(score: F) -> Selector<F>
+        requires { IsScorer F.Fn score }
+        ensures { HasScorer F.Fn result }
+    {
+        Selector { score }
+    }
+
+    /// The index of the best candidate. None exactly where there is no candidate.
+    pub fn choose(&self, candidates: &[Option<Load>; 7]) -> Option<u8>
+        requires { HasScorer F.Fn self.now }
+        ensures { MatchOption result (HasNone candidates.now) (λ place. IsChoice candidates.now place) }
+    {
+        let mut best = None;
+        for place in 0..7 {
+            let next = candidates[usize::from(place)];
+            best = self.better(best, place, next);
+        }
+        best.map(|scored| scored.place)
+    }
+
+    // The better of the best so far and the next server, which has to be a candidate and strictly below it.
+    fn better(&self, best: Option<Scored>, place: u8, next: Option<Load>) -> Option<Scored>
+        requires { HasScorer F.Fn self.now }
+        ensures { (seen : List (Option Load)) → length seen ≡ place → IsBest seen best → IsBest (seen ++ next ∷ []) result }
+    {
+        let Some(load) = next else {
+            return best;
+        };
+        let score = (self.score)(&load);
+        let found = Scored { place, score };
+        let Some(least) = best else {
+            return Some(found);
+        };
+        if found.score < least.score {
+            Some(found)
+        } else {
+            best
+        }
+    }
+}
