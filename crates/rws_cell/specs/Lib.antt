@@ -1,0 +1,4 @@
+pub mod Packing
+pub mod Rule
+pub mod Shown
+pub mod Views
