@@ -1,9 +1,8 @@
 -- A statement of too many tokens has no fixed form.
-use Rattle.std.proofs.Common.{◌≡◌, ℕ, suc, ◌+◌, ◌<◌, ◌≤◌, Bool, true, false, ◌&&◌, cond, List, [], ◌∷◌, ◌++◌, length, map, take, nat_lt, refl, ap, sym, ◌∙◌, arith, append_assoc, length-append}
+use Rattle.std.proofs.Common.{◌≡◌, ℕ, suc, ◌≤◌, Bool, true, false, ◌&&◌, cond, List, [], ◌∷◌, length, nat_lt, refl, ap, arith}
 use Rattle.std.specs.List.{list_all}
 use Rattle.std.proofs.lemmas.Bool.{ltb-true}
-use Rattle.std.proofs.lemmas.List.{length-map}
-use Rattle.rws_class.specs.Seen.{Seen, seen}
+use Rattle.rws_class.specs.Seen.{Seen}
 use Rattle.rws_class.specs.Forms.{Part, Form, fits, reads, form_class}
 use Rattle.rws_class.specs.declared.class.Class.TheVariants.{Other}
 

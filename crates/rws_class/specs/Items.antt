@@ -1,9 +1,9 @@
 -- What a reader of SET's items knows, as what the items do if these tokens are left.
-use Rattle.std.specs.Prelude.{ℕ, Bool, not, ◌&&◌, ◌||◌, if◌then◌else◌, List, [], ◌∷◌, Some}
+use Rattle.std.specs.Prelude.{not, ◌&&◌, if◌then◌else◌, List, Some}
 use Rattle.std.specs.List.{list_any, list_all}
 use Rattle.rws_class.specs.Seen.{Seen}
 use Rattle.rws_class.specs.Mode.{found_in}
-use Rattle.rws_class.specs.Settings.{Parted, value_effect, is_none, is_assigning, is_mode_part, strings, parts_effect, assigned, scoped, item_effect, items_from, joined, total}
+use Rattle.rws_class.specs.Settings.{value_effect, is_none, is_assigning, is_mode_part, strings, parts_effect, assigned, scoped, item_effect, items_from, joined, total}
 use Rattle.rws_class.specs.declared.setting.Effect.{Effect}
 use Rattle.rws_class.specs.declared.setting.Effect.TheVariants.{Wrong, Plain}
 use Rattle.rws_class.specs.declared.mode.Search.{Search}

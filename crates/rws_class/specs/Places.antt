@@ -1,8 +1,8 @@
 -- Tokens with what stands beside them, and which of them are calls.
-use Rattle.std.specs.Prelude.{ℕ, Bool, true, false, not, ◌&&◌, ◌||◌, Option, Some, None, List, [], ◌∷◌}
+use Rattle.std.specs.Prelude.{ℕ, Bool, false, not, ◌&&◌, ◌||◌, Option, Some, None, List, [], ◌∷◌}
 use Rattle.std.specs.Option.{option_map}
 use Rattle.rws_token.specs.declared.token.TokenKind.TheVariants.{Word, Quoted}
-use Rattle.rws_class.specs.Seen.{Seen, seen, is_kind, same_word, is_word, is_symbol, unquoted}
+use Rattle.rws_class.specs.Seen.{Seen, seen, is_kind, is_symbol, unquoted}
 use Rattle.rws_class.specs.Words.{is_on, key_words, pure_names, primary_names}
 use Rattle.rws_class.specs.declared.window.Window.{Window}
 

@@ -1,5 +1,5 @@
 -- SET: which variables of a session it sets, and to what.
-use Rattle.std.specs.Prelude.{ℕ, ◌+◌, ◌-◌, Bool, true, false, not, ◌&&◌, ◌||◌, ◌==◌, if◌then◌else◌, Option, Some, None, List, [], ◌∷◌, codes, take, drop, length, map}
+use Rattle.std.specs.Prelude.{ℕ, ◌+◌, ◌-◌, Bool, true, false, not, ◌&&◌, ◌||◌, ◌==◌, if◌then◌else◌, Option, Some, None, List, [], ◌∷◌, codes, take, drop, length}
 use Rattle.std.specs.List.{list_any, list_all, flat_map}
 use Rattle.rws_token.specs.declared.token.TokenKind.TheVariants.{Word, Number, Str, UserVar, SysVar, Assign}
 use Rattle.rws_class.specs.Seen.{Seen, is_kind, same_word, is_word, is_symbol, unquoted}

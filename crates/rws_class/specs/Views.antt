@@ -1,5 +1,5 @@
 -- The program's tables of forms, as lists.
-use Rattle.std.specs.Prelude.{List, [], ◌∷◌, map}
+use Rattle.std.specs.Prelude.{List, map}
 use Rattle.rws_class.specs.Forms.{Form, Part, The, Name, AnyWord, CharacterSet, Text}
 use Rattle.rws_class.specs.declared.form.Part as declared
 use Rattle.rws_class.specs.declared.form.Part.TheVariants as made

@@ -1,9 +1,8 @@
 -- What is left behind a piece.
 use Rattle.std.proofs.Common.{◌≡◌, ℕ, zero, suc, ◌+◌, ◌-◌, ◌≤◌, List, [], ◌∷◌, Some, length, drop, take, get_or, refl, ap, sym, ◌∙◌, arith, add-zero}
 use Rattle.std.proofs.lemmas.List.{take_rest}
-use Rattle.rws_token.specs.Lexed.{Lexed, lexed_from, follow}
+use Rattle.rws_token.specs.Lexed.{lexed_from, follow}
 use Rattle.rws_token.specs.Piece.{piece_at, FitsIn}
-use Rattle.rws_token.specs.declared.piece.Piece.{Piece}
 use Rattle.rws_token.specs.declared.piece.Piece.TheVariants.{Gap, Lexeme, Endless}
 use Rattle.rws_token.specs.declared.token.TokenKind.{TokenKind}
 

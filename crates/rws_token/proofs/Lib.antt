@@ -1,1 +1,2 @@
 pub mod LexedLemmas
+pub mod GrammarLemmas

@@ -1,8 +1,8 @@
 -- What stands at the front of a text: the longest token, or white space, or a comment.
 use Rattle.std.specs.Prelude.{ℕ, ◌+◌, Bool, true, false, ◌&&◌, ◌||◌, ◌==◌, ◌≤◌, if◌then◌else◌, Option, Some, None, List, [], ◌∷◌}
 use Rattle.std.specs.Char.{is_ascii_digit}
-use Rattle.rws_token.specs.Bytes.{is_white, is_word_byte, is_word_start, ends_dashes}
-use Rattle.rws_token.specs.Ends.{run_len, begins_with, enclosed_end, comment_end, begins_word, words_len}
+use Rattle.rws_token.specs.Bytes.{is_white, is_word_start, ends_dashes}
+use Rattle.rws_token.specs.Ends.{run_len, begins_with, enclosed_end, comment_end, words_len}
 use Rattle.rws_token.specs.declared.end.Run.TheVariants.{Line, Word as word_run, Number as number_run, Variable as variable_run}
 use Rattle.rws_token.specs.declared.piece.Piece.{Piece}
 use Rattle.rws_token.specs.declared.piece.Piece.TheVariants.{Gap, Lexeme, Endless}

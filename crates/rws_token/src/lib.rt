@@ -3,10 +3,12 @@
 
 mod byte;
 mod end;
+mod law;
 mod piece;
 mod token;
 mod tokens;
 
+pub use law::{comments_end_by_grammar, enclosed_ends_by_grammar};
 pub use token::{Token, TokenKind, Unclosed};
 pub use tokens::Tokens;
 

@@ -1,8 +1,8 @@
-use Rattle.std.proofs.Common.{◌≡◌, ◌≤◌, Bool, false, Option, None, Some, Ok, Err, List, [], length, refl, sym, ap, ◌∙◌, arith}
+use Rattle.std.proofs.Common.{◌≡◌, false, Ok, length, sym, ap, ◌∙◌, arith}
 use Rattle.rws_class.specs.Seen.{seen}
 use Rattle.rws_class.specs.Places.{place}
 use Rattle.rws_class.specs.Numbers.{is_unfit}
-use Rattle.rws_class.specs.States.{ahead, before_lexeme, class_left, reader_depth}
+use Rattle.rws_class.specs.States.{ahead, before_lexeme, class_left}
 use Rattle.rws_class.proofs.ClassLemmas.{class_ahead, class_ahead-first, class_of-start, class_left-last}
 use Rattle.rws_class.proofs.classifier.classify.Goals as goal
 

@@ -1,4 +1,4 @@
-use Rattle.std.proofs.Common.{length, get_or, sym, ap, ◌∙◌}
+use Rattle.std.proofs.Common.{length, sym, ap, ◌∙◌}
 use Rattle.rws_class.specs.Seen.{same_word}
 use Rattle.rws_class.specs.Words.{is_on}
 use Rattle.rws_class.proofs.Tables.{list_any-map, names_of-at}

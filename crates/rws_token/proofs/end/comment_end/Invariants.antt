@@ -1,4 +1,4 @@
-use Rattle.std.proofs.Common.{◌≡◌, ◌+◌, false, length}
+use Rattle.std.proofs.Common.{◌≡◌, ◌+◌, length}
 use Rattle.rws_token.specs.Ends.{comment_end}
 use Rattle.rws_token.proofs.end.comment_end.Given as goal
 

@@ -1,4 +1,4 @@
-use Rattle.std.proofs.Common.{◌≡◌, ◌+◌, false, length}
+use Rattle.std.proofs.Common.{◌≡◌, ◌+◌, length}
 use Rattle.rws_token.specs.Ends.{run_len}
 use Rattle.rws_token.proofs.end.run_len.Given as goal
 

@@ -1,7 +1,7 @@
-use Rattle.std.proofs.Common.{◌≡◌, ◌≤◌, ◌+◌, ◌-◌, ℕ, length, drop, get_or, List, [], ◌∷◌, sym, ap, ◌∙◌, arith, length-drop}
+use Rattle.std.proofs.Common.{◌≡◌, ◌≤◌, ◌+◌, ◌-◌, ℕ, drop, List, sym, ap, ◌∙◌, arith}
 use Rattle.std.proofs.lemmas.List.{drop-drop}
 use Rattle.rws_token.specs.Lexed.{lexed_from, follow}
-use Rattle.rws_token.specs.declared.piece.Piece.TheVariants.{Gap, Lexeme}
+use Rattle.rws_token.specs.declared.piece.Piece.TheVariants.{Lexeme}
 use Rattle.rws_token.proofs.LexedLemmas.{lexed_from-gap_at, lexed_from-lexeme_at}
 use Rattle.rws_token.proofs.tokens.next_token.Goals as goal
 

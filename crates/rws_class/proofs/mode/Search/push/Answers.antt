@@ -1,7 +1,6 @@
 use Rattle.std.proofs.Common.{◌≡◌, ℕ, Bool, ◌||◌, List, [], ◌∷◌, ◌++◌, drop, length, refl, ap, sym, ◌∙◌, arith}
 use Rattle.rws_class.specs.Words.{mode_words}
 use Rattle.rws_class.specs.Settings.{begins_mode, holds_mode}
-use Rattle.rws_class.specs.declared.mode.Search.{Search}
 use Rattle.rws_class.proofs.ModeLemmas.{AreShort, holds_mode-shift, or-assoc}
 use Rattle.rws_class.proofs.mode.Search.push.Goals as goal
 
