@@ -1,0 +1,132 @@
+-- A field that was written is read again, whatever follows it.
+use Rattle.std.proofs.Common.{◌≡◌, ◌≢◌, ℕ, ◌+◌, ◌*◌, ◌^◌, ◌<◌, false, ltb, List, [], ◌∷◌, ◌++◌, length, take, drop, Result, Ok, Err, refl, sym, ap, ◌∙◌, append_assoc, arith, inl, inr}
+use Rattle.std.proofs.lemmas.Bool.{cases_lt, lt-ltb, le-ltb, eq-eqb, ne_eqb}
+use Rattle.std.proofs.lemmas.List.{append-nil, length-take-le, take_at, drop_at, length-append}
+use Rattle.rws_wire.specs.Numbers.{bytes_of}
+use Rattle.rws_wire.specs.Lenenc.{lenenc_bytes}
+use Rattle.rws_wire.proofs.NumberLemmas.{length-bytes_of, number_of-bytes_of}
+use Rattle.rws_wire.proofs.LenencLemmas.{lenenc-lenenc_bytes}
+use Rattle.rws_msgs.specs.declared.fault.MsgFault.{MsgFault}
+use Rattle.rws_msgs.specs.declared.fault.MsgFault.TheVariants.{Short}
+use Rattle.rws_msgs.specs.Reading.{◌>>=◌}
+use Rattle.rws_msgs.specs.Fields.{bytes_at, number_at, fixed_at, integer_or_fault, lenenc_at, text_at, text_bytes, ended, zero_text_at, HasNoZero}
+
+-- the value of a step that did not fail
+pub bind_ok : {A B : Type 0} (r : Result A MsgFault) (f : A → Result B MsgFault) (y : B) → (r >>= f) ≡ Ok y → (x : A) × (r ≡ Ok x) × (f x ≡ Ok y)
+bind_ok (Ok x) f y e = (x, refl, e)
+bind_ok (Err fault) f y e = absurd cc
+
+abbrev failed : Result (List ℕ × List ℕ) MsgFault
+failed = Err Short
+
+abbrev done : {A : Type 0} → A → Result A MsgFault
+done x = Ok x
+
+pub ok_is : {A : Type 0} (x y : A) → done x ≡ done y → x ≡ y
+ok_is x y e = cc
+
+pub ended_is : {A : Type 0} (x y : A) (rest : List ℕ) → ended x rest ≡ Ok y → x ≡ y
+unfolding ended
+ended_is x y [] e = ok_is x y e
+ended_is x y (byte ∷ rest) e = absurd cc
+
+pub bytes_again : (text rest : List ℕ) (size : ℕ) → length text ≡ size → bytes_at size (text ++ rest) ≡ Ok (text, rest)
+unfolding bytes_at
+bytes_again text rest size len =
+    let long : ltb (length (text ++ rest)) size ≡ false = le-ltb _ _ (omega (arith, length-append text rest)) in
+    rw (long, take_at text rest size len, drop_at text rest size len) refl
+
+pub number_again : (size n : ℕ) (rest : List ℕ) → n < 256 ^ size → number_at size (bytes_of size n ++ rest) ≡ Ok (n, rest)
+unfolding number_at
+number_again size n rest lt =
+    let len = length-bytes_of size n in
+    let long : ltb (length (bytes_of size n ++ rest)) size ≡ false = le-ltb _ _ (omega (arith, length-append (bytes_of size n) rest)) in
+    rw (long, take_at (bytes_of size n) rest size len, drop_at (bytes_of size n) rest size len, number_of-bytes_of size n lt) refl
+
+pub byte_again : (n : ℕ) (rest : List ℕ) → number_at 1 (n ∷ rest) ≡ Ok (n, rest)
+unfolding number_at
+byte_again n rest =
+    let long : ltb (length (n ∷ rest)) 1 ≡ false = le-ltb _ _ (omega arith) in
+    let one : n + 256 * 0 ≡ n = omega arith in
+    rw long (ap (λ (k : ℕ). Ok (k, rest)) one)
+
+pub bytes_size : (size : ℕ) (bytes text rest : List ℕ) → bytes_at size bytes ≡ Ok (text, rest) → length text ≡ size
+unfolding bytes_at
+bytes_size size bytes text rest e =
+    elim (cases_lt (length bytes) size) [
+      | inl lt ↦ absurd (let short : failed ≡ Ok (text, rest) = rw (lt-ltb (length bytes) size lt) at e in cc)
+      | inr le ↦
+          let whole = ok_is (take size bytes, drop size bytes) (text, rest) (rw (le-ltb (length bytes) size le) at e) in
+          ap (λ (p : List ℕ × List ℕ). length p.0) (sym whole) ∙ length-take-le size bytes le
+    ]
+
+pub last_number_again : (size n : ℕ) → n < 256 ^ size → number_at size (bytes_of size n) ≡ Ok (n, [])
+last_number_again size n lt = ap (number_at size) (sym (append-nil (bytes_of size n))) ∙ number_again size n [] lt
+
+pub fixed_again : (byte : ℕ) (rest : List ℕ) → fixed_at byte (byte ∷ rest) ≡ Ok rest
+unfolding fixed_at
+fixed_again byte rest = rw (eq-eqb byte byte refl) refl
+
+pub lenenc_again : (n : ℕ) (rest : List ℕ) → n < 2 ^ 64 → lenenc_at (lenenc_bytes n ++ rest) ≡ Ok (n, rest)
+unfolding lenenc_at
+lenenc_again n rest lt = ap integer_or_fault (lenenc-lenenc_bytes n rest lt)
+
+pub text_again : (text rest : List ℕ) → length text < 2 ^ 64 → text_at (text_bytes text ++ rest) ≡ Ok (text, rest)
+unfolding text_at text_bytes
+text_again text rest lt =
+    ap text_at (append_assoc (lenenc_bytes (length text)) text rest)
+    ∙ ap (λ r. r >>= λ size. bytes_at size.0 size.1) (lenenc_again (length text) (text ++ rest) lt)
+    ∙ bytes_again text rest (length text) refl
+
+-- ---- the end of a payload
+
+abbrev pub nothing : Unit {0}
+nothing = tt
+
+pub ended_ok : {A : Type 0} (value : A) (rest : List ℕ) → ended nothing rest ≡ Ok nothing → ended value rest ≡ Ok value
+unfolding ended
+ended_ok value [] e = refl
+ended_ok value (byte ∷ rest) e = absurd cc
+
+pub ended_err : {A : Type 0} (value : A) (rest : List ℕ) (fault : MsgFault) → ended nothing rest ≡ Err fault → ended value rest ≡ Err fault
+unfolding ended
+ended_err value [] fault e = absurd cc
+ended_err value (byte ∷ rest) fault e = cc
+
+-- ---- texts that end with a zero byte
+
+pub zero_text_again : (text rest : List ℕ) → HasNoZero text → zero_text_at (text ++ 0 ∷ rest) ≡ Ok (text, rest)
+unfolding zero_text_at HasNoZero
+zero_text_again [] rest none = refl
+zero_text_again (byte ∷ text) rest none = rw (ne_eqb byte 0 none.0, zero_text_again text rest none.1) refl
+
+-- the text so far is put before what is read
+abbrev pub with_front : List ℕ → Result (List ℕ × List ℕ) MsgFault → Result (List ℕ × List ℕ) MsgFault
+with_front front read = read >>= λ x. Ok (front ++ x.0, x.1)
+
+pub with_front_nil : (read : Result (List ℕ × List ℕ) MsgFault) → with_front [] read ≡ read
+with_front_nil (Ok x) = refl
+with_front_nil (Err fault) = refl
+
+pub zero_text_found : (front rest : List ℕ) (whole : Result (List ℕ × List ℕ) MsgFault) → with_front front (zero_text_at (0 ∷ rest)) ≡ whole → whole ≡ Ok (front, rest)
+unfolding zero_text_at
+zero_text_found front rest whole e = sym e ∙ ap (λ (t : List ℕ). Ok (t, rest)) (append-nil front)
+
+moved : (front : List ℕ) (byte : ℕ) (read : Result (List ℕ × List ℕ) MsgFault) → with_front (front ++ byte ∷ []) read ≡ with_front front (read >>= λ x. Ok (byte ∷ x.0, x.1))
+moved front byte (Ok x) = ap (λ (t : List ℕ). Ok (t, x.1)) (append_assoc front (byte ∷ []) x.0)
+moved front byte (Err fault) = refl
+
+pub zero_text_goes_on : (front rest : List ℕ) (byte : ℕ) (whole : Result (List ℕ × List ℕ) MsgFault) → byte ≢ 0 → with_front front (zero_text_at (byte ∷ rest)) ≡ whole
+    → with_front (front ++ byte ∷ []) (zero_text_at rest) ≡ whole
+unfolding zero_text_at
+zero_text_goes_on front rest byte whole other e =
+    moved front byte (zero_text_at rest) ∙ rw (ne_eqb byte 0 other) at e
+
+pub HasNoZero-append : (text : List ℕ) (byte : ℕ) → HasNoZero text → byte ≢ 0 → HasNoZero (text ++ byte ∷ [])
+unfolding HasNoZero
+HasNoZero-append [] byte none other = (other, tt)
+HasNoZero-append (first ∷ text) byte none other = (none.0, HasNoZero-append text byte none.1 other)
+
+pub HasNoZero-nil : HasNoZero []
+unfolding HasNoZero
+HasNoZero-nil = tt

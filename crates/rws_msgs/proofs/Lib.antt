@@ -1,0 +1,10 @@
+pub mod WritingLemmas
+pub mod FieldLemmas
+pub mod OkLemmas
+pub mod ErrLemmas
+pub mod EofLemmas
+pub mod PrepareOkLemmas
+pub mod SwitchLemmas
+pub mod ExecuteLemmas
+pub mod GreetingLemmas
+pub mod ResponseLemmas

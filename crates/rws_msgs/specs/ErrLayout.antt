@@ -1,0 +1,23 @@
+-- ERR_Packet of a client with CLIENT_PROTOCOL_41: the state stands behind `#`.
+use Rattle.std.specs.Prelude.{◌≡◌, ℕ, ◌<◌, ◌^◌, length, List, ◌∷◌, ◌++◌, Result, Ok}
+use Rattle.rws_wire.specs.Numbers.{bytes_of}
+use Rattle.rws_msgs.specs.declared.fault.MsgFault.{MsgFault}
+use Rattle.rws_msgs.specs.declared.err_msg.ErrMsg.{ErrMsg}
+use Rattle.rws_msgs.specs.Fields.{fixed_at, number_at, bytes_at}
+use Rattle.rws_msgs.specs.Reading.{◌>>=◌}
+
+unfoldable pub err_at : List ℕ → Result ErrMsg MsgFault
+err_at payload = do
+  rest ← fixed_at 0xFF payload
+  code ← number_at 2 rest
+  marked ← fixed_at 0x23 code.1
+  state ← bytes_at 5 marked
+  Ok (record { code = code.0; state = state.0; text = state.1 })
+
+unfoldable pub err_bytes : ErrMsg → List ℕ
+err_bytes err = 0xFF ∷ (bytes_of 2 err.code ++ 0x23 ∷ (err.state ++ err.text))
+
+-- the ranges of the fields
+pub record ErrFits (err : ErrMsg) : Type 0 where
+  pub code : err.code < 2 ^ 16
+  pub state : length err.state ≡ 5

@@ -1,0 +1,17 @@
+-- AuthSwitchRequest: another authentication plugin is asked for.
+use Rattle.std.specs.Prelude.{ℕ, List, [], ◌∷◌, ◌++◌, Result}
+use Rattle.rws_msgs.specs.declared.fault.MsgFault.{MsgFault}
+use Rattle.rws_msgs.specs.declared.switch.Switch.{Switch}
+use Rattle.rws_msgs.specs.Fields.{fixed_at, bytes_at, zero_text_at, ended}
+use Rattle.rws_msgs.specs.Reading.{◌>>=◌}
+
+unfoldable pub switch_at : List ℕ → Result Switch MsgFault
+switch_at payload = do
+  rest ← fixed_at 0xFE payload
+  plugin ← zero_text_at rest
+  scramble ← bytes_at 20 plugin.1
+  last ← fixed_at 0x00 scramble.1
+  ended (record { plugin = plugin.0; scramble = scramble.0 }) last
+
+unfoldable pub switch_bytes : Switch → List ℕ
+switch_bytes switch = 0xFE ∷ (switch.plugin ++ 0x00 ∷ (switch.scramble ++ 0x00 ∷ []))

@@ -1,0 +1,184 @@
+// The call of a prepared statement.
+ghost use Rattle.std.specs.Prelude.{◌≡◌, ◌+◌, ◌++◌, List, ℕ, Ok, OnOk, OnErr, length, take};
+ghost use Rattle.std.specs.Option.{option_map};
+ghost use Rattle.rws_msgs.specs.ExecuteLayout.{execute_at, execute_bytes, once_at, types_at, types_bytes, values_at, values_bytes};
+ghost use Rattle.rws_msgs.specs.ExecuteParts.{ExecuteFits, execute_of};
+ghost use Rattle.rws_msgs.specs.Reading.{Gives, Reads};
+
+use crate::MsgFault;
+use crate::reading::{bytes_at, fixed_at, u8_at, u32_at};
+use crate::writing::{or_cut, put_u32};
+use rws_wire::Text;
+use std::alloc::{AllocError, Global};
+
+/// COM_STMT_EXECUTE, split where a proxy looks at it.
+#[derive(Debug, Drop)]
+pub struct ExecuteHead {
+    /// The statement's id on its link.
+    pub id: u32,
+    /// 0, or the kind of cursor that is asked for.
+    pub flags: u8,
+    /// One bit a parameter: whether it is NULL. Empty for a statement without parameters.
+    pub bitmap: Text,
+    /// Two bytes a parameter, where the types are sent along.
+    pub types: Option<Text>,
+    /// The values of the parameters that aren't NULL, one after another.
+    pub values: Text,
+}
+
+#[derive(Clone, Copy)]
+struct Parts<'a> {
+    id: u32,
+    flags: u8,
+    bitmap: &'a [u8],
+    types: Option<&'a [u8]>,
+    values: &'a [u8],
+}
+
+#[tactic(auto, unfolding(crate::specs::ExecuteLayout::once_at))]
+fn once_at(bytes: &[u8]) -> Result<&[u8], MsgFault>
+    ensures { Reads (λ rest. rest.now) result (once_at bytes.now) }
+{
+    let second = fixed_at(0x01, bytes)?;
+    let third = fixed_at(0x00, second)?;
+    let fourth = fixed_at(0x00, third)?;
+    fixed_at(0x00, fourth)
+}
+
+#[tactic(auto, unfolding(crate::specs::ExecuteLayout::types_at))]
+fn types_of(parameters: u16, bytes: &[u8]) -> Result<(Option<&[u8]>, &[u8]), MsgFault>
+    ensures { Reads (λ x. (option_map (λ types. types.now) x.0, x.1.now)) result (types_at parameters bytes.now) }
+{
+    match bytes {
+        [] => Err(MsgFault::Short),
+        [0, rest @ ..] => Ok((None, rest)),
+        [1, rest @ ..] => {
+            let (types, values) = bytes_at(2 * parameters as usize, rest)?;
+            Ok((Some(types), values))
+        }
+        [given, ..] => Err(MsgFault::BadTag { byte: *given }),
+    }
+}
+
+// The bitmap, the types and the values.
+#[derive(Clone, Copy)]
+struct Values<'a> {
+    bitmap: &'a [u8],
+    types: Option<&'a [u8]>,
+    values: &'a [u8],
+}
+
+#[tactic(auto, unfolding(crate::specs::ExecuteLayout::values_at))]
+fn values_of(parameters: u16, bytes: &[u8]) -> Result<Values<'_>, MsgFault>
+    ensures { Reads (λ v. (v.bitmap.now, (option_map (λ types. types.now) v.types, v.values.now))) result (values_at parameters bytes.now) }
+{
+    if parameters == 0 {
+        return Ok(Values {
+            bitmap: &[],
+            types: None,
+            values: &[],
+        });
+    }
+    let (bitmap, rest) = bytes_at((parameters as usize + 7) / 8, bytes)?;
+    let (types, values) = types_of(parameters, rest)?;
+    Ok(Values {
+        bitmap,
+        types,
+        values,
+    })
+}
+
+#[tactic(auto, unfolding(crate::specs::ExecuteLayout::execute_at))]
+fn parts_of(payload: &[u8], parameters: u16) -> Result<Parts<'_>, MsgFault>
+    ensures { Reads execute_of result (execute_at parameters payload.now) }
+{
+    let rest = fixed_at(0x17, payload)?;
+    let (id, rest) = u32_at(rest)?;
+    let (flags, rest) = u8_at(rest)?;
+    let behind = once_at(rest)?;
+    let given = values_of(parameters, behind)?;
+    Ok(Parts {
+        id,
+        flags,
+        bitmap: given.bitmap,
+        types: given.types,
+        values: given.values,
+    })
+}
+
+impl ExecuteHead {
+    /// The execute in a payload, of a statement with so many parameters.
+    pub fn decode(alloc: Global, payload: &[u8], parameters: u16) -> Result<ExecuteHead, MsgFault>
+        ensures { Gives result (execute_at parameters payload.now) }
+    {
+        let parts = parts_of(payload, parameters)?;
+        let types = match parts.types {
+            Some(types) => Some(Text::from_slice(alloc, types)?),
+            None => None,
+        };
+        Ok(ExecuteHead {
+            id: parts.id,
+            flags: parts.flags,
+            bitmap: Text::from_slice(alloc, parts.bitmap)?,
+            types,
+            values: Text::from_slice(alloc, parts.values)?,
+        })
+    }
+
+    /// Appends the payload. Without a bitmap neither types nor values are written. `Err` leaves `out` as it was.
+    #[tactic(auto, using(crate::proofs::ExecuteLemmas::execute_again))]
+    pub fn encode(&self, out: &mut Vec<u8>) -> Result<(), AllocError>
+        ensures ok { OnOk result (out.new.items ≡ out.old.items ++ execute_bytes self.now) }
+        ensures err { OnErr result (out.new.items ≡ out.old.items) }
+
+        // What was decoded is decoded again.
+        ensures again { (parameters : ℕ) (payload : List ℕ) → execute_at parameters payload ≡ Ok self.now
+            → execute_at parameters (execute_bytes self.now) ≡ Ok self.now }
+    {
+        let before = out.len();
+        or_cut(self.put(out), before, out)
+    }
+
+    #[tactic(auto, unfolding(crate::specs::ExecuteLayout::execute_bytes))]
+    fn put(&self, out: &mut Vec<u8>) -> Result<(), AllocError>
+        ensures ok { OnOk result (out.new.items ≡ out.old.items ++ execute_bytes self.now) }
+        ensures err { OnErr result (take (length out.old.items) out.new.items ≡ out.old.items) }
+        ensures fits { ExecuteFits self.now }
+    {
+        let (id, flags) = (self.id, self.flags);
+        out.push(0x17)?;
+        put_u32(id, out)?;
+        out.extend_from_slice(&[flags, 0x01, 0x00, 0x00, 0x00])?;
+        self.put_values(out)
+    }
+
+    #[tactic(auto, unfolding(crate::specs::ExecuteLayout::values_bytes))]
+    fn put_values(&self, out: &mut Vec<u8>) -> Result<(), AllocError>
+        ensures ok { OnOk result (out.new.items ≡ out.old.items ++ values_bytes self.now.bitmap self.now.types self.now.values) }
+        ensures err { OnErr result (take (length out.old.items) out.new.items ≡ out.old.items) }
+    {
+        if self.bitmap.is_empty() {
+            return Ok(());
+        }
+        out.extend_from_slice(self.bitmap.as_slice())?;
+        put_types(&self.types, out)?;
+        out.extend_from_slice(self.values.as_slice())
+    }
+}
+
+#[tactic(auto, unfolding(crate::specs::ExecuteLayout::types_bytes))]
+fn put_types(types: &Option<Text>, out: &mut Vec<u8>) -> Result<(), AllocError>
+    ensures ok { OnOk result (out.new.items ≡ out.old.items ++ types_bytes types.now) }
+    ensures err { OnErr result (take (length out.old.items) out.new.items ≡ out.old.items) }
+{
+    match types {
+        None => {
+            out.push(0x00)?;
+            Ok(())
+        }
+        Some(types) => {
+            out.push(0x01)?;
+            out.extend_from_slice(types.as_slice())
+        }
+    }
+}

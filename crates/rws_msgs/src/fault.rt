@@ -1,0 +1,28 @@
+// Why a payload is no message.
+ghost use Rattle.std.specs.Prelude.{◌≡◌};
+ghost use Rattle.rws_msgs.specs.declared.fault.MsgFault.TheVariants.{OutOfMemory};
+
+use std::alloc::AllocError;
+
+/// Why a payload isn't in a message's layout: what is met first from left to right.
+#[derive(Clone, Copy, Debug, PartialEq, Eq)]
+pub enum MsgFault {
+    /// The payload ends early.
+    Short,
+    /// A byte that the layout fixes is this one instead.
+    BadTag { byte: u8 },
+    /// Bytes are left behind the message.
+    Trailing,
+    /// A length-encoded integer begins with 0xFB or 0xFF.
+    BadLenenc,
+    /// There was no memory for the message.
+    OutOfMemory,
+}
+
+impl From<AllocError> for MsgFault {
+    ghost from_gives = { λ _ e. e ≡ OutOfMemory };
+
+    fn from(_e: AllocError) -> MsgFault {
+        MsgFault::OutOfMemory
+    }
+}

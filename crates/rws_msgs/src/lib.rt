@@ -1,0 +1,27 @@
+// Messages of the MariaDB client/server protocol, read from payloads and written.
+#![tactic(auto)]
+
+mod eof_msg;
+mod err_msg;
+mod execute_head;
+mod fault;
+mod greeting;
+mod ok_msg;
+mod prepare_ok;
+mod reading;
+mod response;
+mod switch;
+mod writing;
+
+pub use eof_msg::EofMsg;
+pub use err_msg::{ErrMsg, err_code};
+pub use execute_head::ExecuteHead;
+pub use fault::MsgFault;
+pub use greeting::Greeting;
+pub use ok_msg::{OkMsg, ok_status};
+pub use prepare_ok::PrepareOk;
+pub use response::Response;
+pub use switch::Switch;
+
+#[cfg(test)]
+mod tests;

@@ -1,0 +1,160 @@
+// The OK of a reply.
+ghost use Rattle.std.specs.Prelude.{◌≡◌, ◌++◌, List, ℕ, Ok, length, take, OnOk, OnErr};
+ghost use Rattle.std.specs.Option.{option_map};
+ghost use Rattle.std.specs.Result.{result_ok};
+ghost use Rattle.rws_msgs.specs.OkLayout.{OkFits, ok_at, ok_bytes, state_at, texts_at, texts_bytes};
+ghost use Rattle.rws_msgs.specs.OkParts.{ok_of};
+ghost use Rattle.rws_msgs.specs.Reading.{Gives, Reads};
+
+use crate::MsgFault;
+use crate::reading::{end, fixed_at, lenenc_at, text_at, u16_at};
+use crate::writing::{or_cut, put_text, put_u16};
+use rws_wire::{Text, put_lenenc};
+use std::alloc::{AllocError, Global};
+
+/// OK_Packet: a command was carried out.
+#[derive(Debug, Drop)]
+pub struct OkMsg {
+    /// How many rows were changed.
+    pub affected: u64,
+    /// The first value that AUTO_INCREMENT made, or 0.
+    pub insert_id: u64,
+    /// The server's status bits: 0x0001 in a transaction, 0x0002 autocommit, 0x0008 more results follow, 0x4000
+    /// the session's state changed.
+    pub status: u16,
+    pub warnings: u16,
+    pub info: Text,
+    /// The changes of the session's state, as they stand in the message. Empty where there are none.
+    pub state: Text,
+}
+
+const STATE_CHANGED: u16 = 0x4000;
+
+#[derive(Clone, Copy)]
+struct Parts<'a> {
+    affected: u64,
+    insert_id: u64,
+    status: u16,
+    warnings: u16,
+    info: &'a [u8],
+    state: &'a [u8],
+}
+
+#[tactic(auto, unfolding(crate::specs::OkLayout::state_at))]
+fn state_of(stated: bool, bytes: &[u8]) -> Result<(&[u8], &[u8]), MsgFault>
+    ensures { Reads (λ x. (x.0.now, x.1.now)) result (state_at stated bytes.now) }
+{
+    if stated {
+        text_at(bytes)
+    } else {
+        Ok((&[], bytes))
+    }
+}
+
+#[tactic(auto, unfolding(crate::specs::OkLayout::texts_at, crate::specs::Fields::ended))]
+fn texts_of(stated: bool, bytes: &[u8]) -> Result<(&[u8], &[u8]), MsgFault>
+    ensures { Reads (λ x. (x.0.now, x.1.now)) result (texts_at stated bytes.now) }
+{
+    if bytes.is_empty() {
+        return Ok((&[], &[]));
+    }
+    let (info, rest) = text_at(bytes)?;
+    let (state, rest) = state_of(stated, rest)?;
+    end(rest)?;
+    Ok((info, state))
+}
+
+#[tactic(auto, unfolding(crate::specs::OkLayout::ok_at))]
+fn parts_of(payload: &[u8], track: bool) -> Result<Parts<'_>, MsgFault>
+    ensures { Reads ok_of result (ok_at track payload.now) }
+{
+    let rest = fixed_at(0x00, payload)?;
+    let (affected, rest) = lenenc_at(rest)?;
+    let (insert_id, rest) = lenenc_at(rest)?;
+    let (status, rest) = u16_at(rest)?;
+    let (warnings, rest) = u16_at(rest)?;
+    let (info, state) = texts_of(track && status & STATE_CHANGED != 0, rest)?;
+    Ok(Parts {
+        affected,
+        insert_id,
+        status,
+        warnings,
+        info,
+        state,
+    })
+}
+
+/// The status of an OK, read without memory. None where the payload isn't one. `track` says that both sides
+/// have CLIENT_SESSION_TRACK.
+pub fn ok_status(payload: &[u8], track: bool) -> Option<u16>
+    ensures { result ≡ option_map (λ ok. ok.status) (result_ok (ok_at track payload.now)) }
+{
+    match parts_of(payload, track) {
+        Ok(parts) => Some(parts.status),
+        Err(_) => None,
+    }
+}
+
+impl OkMsg {
+    /// The OK in a payload. `track` says that both sides have CLIENT_SESSION_TRACK.
+    pub fn decode(alloc: Global, payload: &[u8], track: bool) -> Result<OkMsg, MsgFault>
+        ensures { Gives result (ok_at track payload.now) }
+    {
+        let parts = parts_of(payload, track)?;
+        Ok(OkMsg {
+            affected: parts.affected,
+            insert_id: parts.insert_id,
+            status: parts.status,
+            warnings: parts.warnings,
+            info: Text::from_slice(alloc, parts.info)?,
+            state: Text::from_slice(alloc, parts.state)?,
+        })
+    }
+
+    /// Appends the payload. Without an info and a state nothing is written of both; a state is written where the
+    /// status has 0x4000 and `track` is set. `Err` leaves `out` as it was.
+    #[tactic(auto, using(crate::proofs::OkLemmas::ok_again))]
+    pub fn encode(&self, track: bool, out: &mut Vec<u8>) -> Result<(), AllocError>
+        ensures ok { OnOk result (out.new.items ≡ out.old.items ++ ok_bytes track self.now) }
+        ensures err { OnErr result (out.new.items ≡ out.old.items) }
+
+        // What was decoded is decoded again.
+        ensures again { (payload : List ℕ) → ok_at track payload ≡ Ok self.now
+            → ok_at track (ok_bytes track self.now) ≡ Ok self.now }
+    {
+        let before = out.len();
+        or_cut(self.put(track, out), before, out)
+    }
+
+    #[tactic(auto, unfolding(crate::specs::OkLayout::ok_bytes))]
+    fn put(&self, track: bool, out: &mut Vec<u8>) -> Result<(), AllocError>
+        ensures ok { OnOk result (out.new.items ≡ out.old.items ++ ok_bytes track self.now) }
+        ensures err { OnErr result (take (length out.old.items) out.new.items ≡ out.old.items) }
+        ensures fits { OkFits self.now }
+    {
+        let (affected, insert_id) = (self.affected, self.insert_id);
+        let (status, warnings) = (self.status, self.warnings);
+        let (info, state) = (self.info.as_slice(), self.state.as_slice());
+        out.push(0x00)?;
+        put_lenenc(affected, out)?;
+        put_lenenc(insert_id, out)?;
+        put_u16(status, out)?;
+        put_u16(warnings, out)?;
+        put_texts(track && status & STATE_CHANGED != 0, info, state, out)
+    }
+}
+
+#[tactic(auto, unfolding(crate::specs::OkLayout::texts_bytes))]
+fn put_texts(stated: bool, info: &[u8], state: &[u8], out: &mut Vec<u8>) -> Result<(), AllocError>
+    ensures ok { OnOk result (out.new.items ≡ out.old.items ++ texts_bytes stated info.now state.now) }
+    ensures err { OnErr result (take (length out.old.items) out.new.items ≡ out.old.items) }
+{
+    if info.is_empty() && state.is_empty() {
+        return Ok(());
+    }
+    put_text(info, out)?;
+    if stated {
+        return put_text(state, out);
+    }
+    Ok(())
+}

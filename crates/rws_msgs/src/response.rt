@@ -1,0 +1,242 @@
+// The client's answer to a greeting.
+ghost use Rattle.std.specs.Prelude.{◌≡◌, ◌++◌, Ok, OnOk, OnErr, IfOk, length, take};
+ghost use Rattle.rws_msgs.specs.Fields.{HasNoZero};
+ghost use Rattle.rws_msgs.specs.Reading.{Gives, Reads};
+ghost use Rattle.rws_msgs.specs.ResponseLayout.{AnswerFits, IsResponse, NameFits, answer_at, answer_bytes, attributes_at, attributes_bytes, front_bytes, has, name_at, name_bytes, names_at, names_bytes, response_at, response_bytes, with_database, with_lenenc, with_plugin};
+ghost use Rattle.rws_msgs.specs.ResponseParts.{ResponseFits, name_of, response_of};
+
+use crate::MsgFault;
+use crate::reading::{bytes_at, end, last_text_at, text_at, u8_at, u32_at, zero_text_at};
+use crate::writing::{or_cut, put_text, put_u32};
+use rws_wire::Text;
+use std::alloc::{AllocError, Global};
+
+/// HandshakeResponse41: the login that a client asks for.
+#[derive(Debug, Drop)]
+pub struct Response {
+    /// The client's capabilities.
+    pub flags: u32,
+    /// The number of the character set.
+    pub charset: u8,
+    pub user: Text,
+    /// The answer to the scramble, or no bytes for an empty password.
+    pub answer: Text,
+    /// There exactly where the flags have CLIENT_CONNECT_WITH_DB.
+    pub database: Option<Text>,
+    /// There exactly where the flags have CLIENT_PLUGIN_AUTH.
+    pub plugin: Option<Text>,
+}
+
+const CONNECT_WITH_DB: u32 = 0x8;
+
+const PLUGIN_AUTH: u32 = 0x8_0000;
+
+const CONNECT_ATTRS: u32 = 0x10_0000;
+
+const PLUGIN_AUTH_LENENC: u32 = 0x20_0000;
+
+const GREATEST_PACKET: u32 = 0x100_0000;
+
+#[derive(Clone, Copy)]
+struct Parts<'a> {
+    flags: u32,
+    charset: u8,
+    user: &'a [u8],
+    answer: &'a [u8],
+    database: Option<&'a [u8]>,
+    plugin: Option<&'a [u8]>,
+}
+
+#[tactic(auto, unfolding(crate::specs::ResponseLayout::has))]
+fn has(flags: u32, bit: u32) -> bool
+    ensures { result ≡ has flags bit }
+{
+    flags & bit != 0
+}
+
+#[tactic(auto, using(crate::proofs::FieldLemmas::bytes_size), unfolding(crate::specs::ResponseLayout::answer_at))]
+fn answer_of(lenenc: bool, bytes: &[u8]) -> Result<(&[u8], &[u8]), MsgFault>
+    ensures fits { IfOk result (λ x. AnswerFits lenenc x.0.now) }
+    ensures reads { Reads (λ x. (x.0.now, x.1.now)) result (answer_at lenenc bytes.now) }
+{
+    if lenenc {
+        return text_at(bytes);
+    }
+    let (size, rest) = u8_at(bytes)?;
+    bytes_at(size as usize, rest)
+}
+
+#[tactic(auto, unfolding(crate::specs::ResponseLayout::name_at))]
+fn name_at(given: bool, last: bool, bytes: &[u8]) -> Result<(Option<&[u8]>, &[u8]), MsgFault>
+    ensures reads { Reads (λ x. (name_of x.0, x.1.now)) result (name_at given last bytes.now) }
+    ensures fits { IfOk result (λ x. NameFits given (name_of x.0)) }
+{
+    if !given {
+        return Ok((None, bytes));
+    }
+    if last {
+        let (text, rest) = last_text_at(bytes);
+        return Ok((Some(text), rest));
+    }
+    let (text, rest) = zero_text_at(bytes)?;
+    Ok((Some(text), rest))
+}
+
+#[tactic(auto, unfolding(crate::specs::ResponseLayout::attributes_at))]
+fn behind_attributes(given: bool, bytes: &[u8]) -> Result<&[u8], MsgFault>
+    ensures { Reads (λ rest. rest.now) result (attributes_at given bytes.now) }
+{
+    if !given {
+        return Ok(bytes);
+    }
+    let (_, rest) = text_at(bytes)?;
+    Ok(rest)
+}
+
+#[derive(Clone, Copy)]
+struct Names<'a> {
+    database: Option<&'a [u8]>,
+    plugin: Option<&'a [u8]>,
+}
+
+#[tactic(auto, unfolding(crate::specs::ResponseLayout::names_at, crate::specs::Fields::ended))]
+fn names_of(flags: u32, bytes: &[u8]) -> Result<Names<'_>, MsgFault>
+    ensures reads { Reads (λ names. (name_of names.database, name_of names.plugin)) result (names_at flags bytes.now) }
+    ensures database { IfOk result (λ names. NameFits (with_database flags) (name_of names.database)) }
+    ensures plugin { IfOk result (λ names. NameFits (with_plugin flags) (name_of names.plugin)) }
+{
+    let plugged = has(flags, PLUGIN_AUTH);
+    let listed = has(flags, CONNECT_ATTRS);
+    let last = !plugged && !listed;
+    let (database, rest) = name_at(has(flags, CONNECT_WITH_DB), last, bytes)?;
+    let (plugin, rest) = name_at(plugged, !listed, rest)?;
+    let rest = behind_attributes(listed, rest)?;
+    end(rest)?;
+    Ok(Names { database, plugin })
+}
+
+#[tactic(auto, unfolding(crate::specs::ResponseLayout::response_at))]
+fn parts_of(payload: &[u8]) -> Result<Parts<'_>, MsgFault>
+    ensures reads { Reads response_of result (response_at payload.now) }
+    ensures fits { IfOk result (λ parts. IsResponse (response_of parts)) }
+{
+    let (flags, rest) = u32_at(payload)?;
+    let (_, rest) = u32_at(rest)?;
+    let (charset, rest) = u8_at(rest)?;
+    let (_, rest) = bytes_at(23, rest)?;
+    let (user, rest) = zero_text_at(rest)?;
+    let (answer, rest) = answer_of(has(flags, PLUGIN_AUTH_LENENC), rest)?;
+    let names = names_of(flags, rest)?;
+    Ok(Parts {
+        flags,
+        charset,
+        user,
+        answer,
+        database: names.database,
+        plugin: names.plugin,
+    })
+}
+
+fn copied(alloc: Global, name: Option<&[u8]>) -> Result<Option<Text>, MsgFault>
+    ensures { Gives result (Ok (name_of name.entry)) }
+{
+    match name {
+        Some(text) => Ok(Some(Text::from_slice(alloc, text)?)),
+        None => Ok(None),
+    }
+}
+
+impl Response {
+    /// The response in a payload.
+    pub fn decode(alloc: Global, payload: &[u8]) -> Result<Response, MsgFault>
+        ensures gives { Gives result (response_at payload.now) }
+        ensures fits { IfOk result IsResponse }
+    {
+        let parts = parts_of(payload)?;
+        Ok(Response {
+            flags: parts.flags,
+            charset: parts.charset,
+            user: Text::from_slice(alloc, parts.user)?,
+            answer: Text::from_slice(alloc, parts.answer)?,
+            database: copied(alloc, parts.database)?,
+            plugin: copied(alloc, parts.plugin)?,
+        })
+    }
+
+    /// Appends the payload, with a greatest packet of 16 MiB and an empty list of attributes where the flags have
+    /// them. `Err` leaves `out` as it was.
+    #[tactic(auto, using(crate::proofs::ResponseLemmas::response_again))]
+    pub fn encode(&self, out: &mut Vec<u8>) -> Result<(), AllocError>
+        ensures ok { OnOk result (out.new.items ≡ out.old.items ++ response_bytes self.now) }
+        ensures err { OnErr result (out.new.items ≡ out.old.items) }
+
+        // It is decoded again.
+        ensures again { IsResponse self.now → response_at (response_bytes self.now) ≡ Ok self.now }
+    {
+        let before = out.len();
+        or_cut(self.put(out), before, out)
+    }
+
+    #[tactic(auto, unfolding(crate::specs::ResponseLayout::response_bytes))]
+    fn put(&self, out: &mut Vec<u8>) -> Result<(), AllocError>
+        ensures ok { OnOk result (out.new.items ≡ out.old.items ++ response_bytes self.now) }
+        ensures err { OnErr result (take (length out.old.items) out.new.items ≡ out.old.items) }
+        ensures fits { ResponseFits self.now }
+    {
+        let (flags, answer) = (self.flags, self.answer.as_slice());
+        self.put_front(out)?;
+        put_answer(has(flags, PLUGIN_AUTH_LENENC), answer, out)?;
+        self.put_names(out)
+    }
+
+    #[tactic(auto, unfolding(crate::specs::ResponseLayout::front_bytes))]
+    fn put_front(&self, out: &mut Vec<u8>) -> Result<(), AllocError>
+        ensures ok { OnOk result (out.new.items ≡ out.old.items ++ front_bytes self.now) }
+        ensures err { OnErr result (take (length out.old.items) out.new.items ≡ out.old.items) }
+    {
+        put_u32(self.flags, out)?;
+        put_u32(GREATEST_PACKET, out)?;
+        out.push(self.charset)?;
+        out.extend_from_slice(&[0; 23])?;
+        out.extend_from_slice(self.user.as_slice())?;
+        out.push(0x00)?;
+        Ok(())
+    }
+
+    #[tactic(auto, unfolding(crate::specs::ResponseLayout::names_bytes, crate::specs::ResponseLayout::attributes_bytes))]
+    fn put_names(&self, out: &mut Vec<u8>) -> Result<(), AllocError>
+        ensures ok { OnOk result (out.new.items ≡ out.old.items ++ names_bytes self.now) }
+        ensures err { OnErr result (take (length out.old.items) out.new.items ≡ out.old.items) }
+    {
+        put_name(&self.database, out)?;
+        put_name(&self.plugin, out)?;
+        if has(self.flags, CONNECT_ATTRS) {
+            out.push(0x00)?;
+        }
+        Ok(())
+    }
+}
+
+#[tactic(auto, unfolding(crate::specs::ResponseLayout::answer_bytes))]
+fn put_answer(lenenc: bool, answer: &[u8], out: &mut Vec<u8>) -> Result<(), AllocError>
+    ensures ok { OnOk result (out.new.items ≡ out.old.items ++ answer_bytes lenenc answer.now) }
+    ensures err { OnErr result (take (length out.old.items) out.new.items ≡ out.old.items) }
+{
+    if lenenc {
+        return put_text(answer, out);
+    }
+    out.push((answer.len() % 256) as u8)?;
+    out.extend_from_slice(answer)
+}
+
+#[tactic(auto, unfolding(crate::specs::ResponseLayout::name_bytes))]
+fn put_name(name: &Option<Text>, out: &mut Vec<u8>) -> Result<(), AllocError>
+    ensures ok { OnOk result (out.new.items ≡ out.old.items ++ name_bytes name.now) }
+    ensures err { OnErr result (take (length out.old.items) out.new.items ≡ out.old.items) }
+{
+    if let Some(text) = name {
+        out.extend_from_slice(text.as_slice())?;
+        out.push(0x00)?;
+    }
+    Ok(())
+}

@@ -1,0 +1,80 @@
+// The question for another authentication plugin.
+ghost use Rattle.std.specs.Prelude.{◌≡◌, ◌++◌, Ok, OnOk, OnErr, IfOk, length, take};
+ghost use Rattle.rws_msgs.specs.Fields.{HasNoZero};
+ghost use Rattle.rws_msgs.specs.Reading.{Gives, Reads};
+ghost use Rattle.rws_msgs.specs.SwitchLayout.{switch_at, switch_bytes};
+ghost use Rattle.rws_msgs.specs.SwitchParts.{switch_of};
+
+use crate::MsgFault;
+use crate::reading::{array20_at, end, fixed_at, zero_text_at};
+use crate::writing::or_cut;
+use rws_wire::Text;
+use std::alloc::{AllocError, Global};
+
+/// AuthSwitchRequest: the side that asks for a login wants an answer by another plugin.
+#[derive(Debug, Drop)]
+pub struct Switch {
+    /// The plugin's name.
+    pub plugin: Text,
+    pub scramble: [u8; 20],
+}
+
+#[derive(Clone, Copy)]
+struct Parts<'a> {
+    plugin: &'a [u8],
+    scramble: [u8; 20],
+}
+
+#[tactic(auto, unfolding(crate::specs::SwitchLayout::switch_at, crate::specs::Fields::ended))]
+fn parts_of(payload: &[u8]) -> Result<Parts<'_>, MsgFault>
+    ensures reads { Reads switch_of result (switch_at payload.now) }
+    ensures no_zero { IfOk result (λ parts. HasNoZero parts.plugin.now) }
+{
+    let rest = fixed_at(0xFE, payload)?;
+    let (plugin, rest) = zero_text_at(rest)?;
+    let (scramble, rest) = array20_at(rest)?;
+    let last = fixed_at(0x00, rest)?;
+    end(last)?;
+    Ok(Parts { plugin, scramble })
+}
+
+impl Switch {
+    /// The switch in a payload.
+    pub fn decode(alloc: Global, payload: &[u8]) -> Result<Switch, MsgFault>
+        ensures gives { Gives result (switch_at payload.now) }
+        ensures no_zero { IfOk result (λ switch. HasNoZero switch.plugin) }
+    {
+        let parts = parts_of(payload)?;
+        Ok(Switch {
+            plugin: Text::from_slice(alloc, parts.plugin)?,
+            scramble: parts.scramble,
+        })
+    }
+
+    /// Appends the payload. `Err` leaves `out` as it was.
+    #[tactic(auto, using(crate::proofs::SwitchLemmas::switch_again))]
+    pub fn encode(&self, out: &mut Vec<u8>) -> Result<(), AllocError>
+        ensures ok { OnOk result (out.new.items ≡ out.old.items ++ switch_bytes self.now) }
+        ensures err { OnErr result (out.new.items ≡ out.old.items) }
+
+        // It is decoded again.
+        ensures again { HasNoZero self.now.plugin → switch_at (switch_bytes self.now) ≡ Ok self.now }
+    {
+        let before = out.len();
+        or_cut(self.put(out), before, out)
+    }
+
+    #[tactic(auto, unfolding(crate::specs::SwitchLayout::switch_bytes))]
+    fn put(&self, out: &mut Vec<u8>) -> Result<(), AllocError>
+        ensures ok { OnOk result (out.new.items ≡ out.old.items ++ switch_bytes self.now) }
+        ensures err { OnErr result (take (length out.old.items) out.new.items ≡ out.old.items) }
+        ensures fits { length self.now.scramble ≡ 20 }
+    {
+        out.push(0xFE)?;
+        out.extend_from_slice(self.plugin.as_slice())?;
+        out.push(0x00)?;
+        out.extend_from_slice(&self.scramble)?;
+        out.push(0x00)?;
+        Ok(())
+    }
+}
