@@ -1,0 +1,202 @@
+//! What may come next in a reply.
+
+ghost use Rattle.std.specs.Prelude.{◌≡◌};
+ghost use Rattle.rws_reply.specs.Tracking.{after_result, next, to_columns, to_parameters};
+
+use crate::payload;
+
+/// What a tracker waits for.
+#[derive(Clone, Copy)]
+pub enum Awaits {
+    /// An OK or an ERR.
+    Simple,
+    /// The first payload of a result of a query.
+    Query,
+    /// So many more definitions of columns, and an EOF.
+    Definitions(u64),
+    /// The rows of a result.
+    Rows,
+    /// A PrepareOk or an ERR.
+    Prepare,
+    /// So many more definitions of parameters, and an EOF; then those of so many columns.
+    Parameters(u16, u16),
+    /// So many more definitions of a prepared statement's columns, and an EOF.
+    Columns(u16),
+    /// The first payload of a list of fields.
+    FieldList,
+    /// The rest of a list of fields.
+    Fields,
+}
+
+/// What a payload leads to.
+pub enum Step {
+    Goes(Awaits),
+    Done(u16),
+    Failed(u16),
+    Wrong,
+}
+
+fn result_end(status: u16) -> Step
+    ensures { result ≡ after_result status }
+{
+    if payload::has_more(status) {
+        Step::Goes(Awaits::Query)
+    } else {
+        Step::Done(status)
+    }
+}
+
+fn columns_next(columns: u16, status: u16) -> Step
+    ensures { result ≡ to_columns columns status }
+{
+    if columns == 0 {
+        Step::Done(status)
+    } else {
+        Step::Goes(Awaits::Columns(columns))
+    }
+}
+
+fn parameters_next(columns: u16, parameters: u16) -> Step
+    ensures { result ≡ to_parameters (columns, parameters) }
+{
+    if parameters == 0 {
+        columns_next(columns, 0x0002)
+    } else {
+        Step::Goes(Awaits::Parameters(parameters, columns))
+    }
+}
+
+fn simple(payload: &[u8]) -> Step
+    ensures { result ≡ next Awaits.Simple payload.now }
+{
+    if let Some(status) = payload::ok(payload) {
+        Step::Done(status)
+    } else if let Some(code) = payload::err(payload) {
+        Step::Failed(code)
+    } else {
+        Step::Wrong
+    }
+}
+
+fn query(payload: &[u8]) -> Step
+    ensures { result ≡ next Awaits.Query payload.now }
+{
+    if let Some(status) = payload::ok(payload) {
+        result_end(status)
+    } else if let Some(code) = payload::err(payload) {
+        Step::Failed(code)
+    } else if let Some(count) = payload::columns(payload) {
+        Step::Goes(Awaits::Definitions(count))
+    } else {
+        Step::Wrong
+    }
+}
+
+fn definitions(left: u64, payload: &[u8]) -> Step
+    ensures { result ≡ next (Awaits.Definitions left) payload.now }
+{
+    if left == 0 {
+        match payload::eof(payload) {
+            Some(_) => Step::Goes(Awaits::Rows),
+            None => Step::Wrong,
+        }
+    } else if payload::definition(payload) {
+        Step::Goes(Awaits::Definitions(left - 1))
+    } else {
+        Step::Wrong
+    }
+}
+
+fn rows(payload: &[u8]) -> Step
+    ensures { result ≡ next Awaits.Rows payload.now }
+{
+    if let Some(status) = payload::eof(payload) {
+        result_end(status)
+    } else if let Some(code) = payload::err(payload) {
+        Step::Failed(code)
+    } else if payload::row(payload) {
+        Step::Goes(Awaits::Rows)
+    } else {
+        Step::Wrong
+    }
+}
+
+fn prepare(payload: &[u8]) -> Step
+    ensures { result ≡ next Awaits.Prepare payload.now }
+{
+    if let Some(code) = payload::err(payload) {
+        Step::Failed(code)
+    } else if let Some((columns, parameters)) = payload::prepared(payload) {
+        parameters_next(columns, parameters)
+    } else {
+        Step::Wrong
+    }
+}
+
+fn parameters(left: u16, columns: u16, payload: &[u8]) -> Step
+    ensures { result ≡ next (Awaits.Parameters left columns) payload.now }
+{
+    if left == 0 {
+        match payload::eof(payload) {
+            Some(status) => columns_next(columns, status),
+            None => Step::Wrong,
+        }
+    } else if payload::definition(payload) {
+        Step::Goes(Awaits::Parameters(left - 1, columns))
+    } else {
+        Step::Wrong
+    }
+}
+
+fn columns(left: u16, payload: &[u8]) -> Step
+    ensures { result ≡ next (Awaits.Columns left) payload.now }
+{
+    if left == 0 {
+        match payload::eof(payload) {
+            Some(status) => Step::Done(status),
+            None => Step::Wrong,
+        }
+    } else if payload::definition(payload) {
+        Step::Goes(Awaits::Columns(left - 1))
+    } else {
+        Step::Wrong
+    }
+}
+
+fn field_list(payload: &[u8]) -> Step
+    ensures { result ≡ next Awaits.FieldList payload.now }
+{
+    match payload::err(payload) {
+        Some(code) => Step::Failed(code),
+        None => fields(payload),
+    }
+}
+
+fn fields(payload: &[u8]) -> Step
+    ensures { result ≡ next Awaits.Fields payload.now }
+{
+    if let Some(status) = payload::eof(payload) {
+        Step::Done(status)
+    } else if payload::definition(payload) {
+        Step::Goes(Awaits::Fields)
+    } else {
+        Step::Wrong
+    }
+}
+
+/// What one more payload leads to.
+pub fn after(awaits: Awaits, payload: &[u8]) -> Step
+    ensures { result ≡ next awaits payload.now }
+{
+    match awaits {
+        Awaits::Simple => simple(payload),
+        Awaits::Query => query(payload),
+        Awaits::Definitions(left) => definitions(left, payload),
+        Awaits::Rows => rows(payload),
+        Awaits::Prepare => prepare(payload),
+        Awaits::Parameters(left, after) => parameters(left, after, payload),
+        Awaits::Columns(left) => columns(left, payload),
+        Awaits::FieldList => field_list(payload),
+        Awaits::Fields => fields(payload),
+    }
+}

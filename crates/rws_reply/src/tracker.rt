@@ -1,0 +1,60 @@
+//! Follows one reply from its first payload to its last.
+
+ghost use Rattle.std.specs.Prelude.{◌≡◌, List, [], ◌∷◌, ◌++◌, Ok};
+
+use crate::awaits::{Awaits, Step, after};
+use crate::{BadReply, Kind, Progress};
+use std::marker::Model;
+
+/// Tells after each payload whether the reply goes on, is whole, or can't be one. It takes no memory. After `Done`,
+/// `Failed` or `BadReply` it has nothing more to say: a new reply begins with a new tracker.
+#[derive(Drop)]
+pub struct ReplyTracker {
+    awaits: Awaits,
+}
+
+impl Model for ReplyTracker {
+    ghost use Rattle.rws_reply.specs.declared.awaits.Awaits.{Awaits};
+
+    ghost Value = { Awaits };
+
+    ghost view = { λ tracker. tracker.awaits };
+}
+
+impl ReplyTracker {
+    ghost use Rattle.rws_reply.specs.declared.kind.Kind.{Kind};
+    ghost use Rattle.rws_reply.specs.declared.kind.Progress.TheVariants.{More};
+    ghost use Rattle.rws_reply.specs.Replies.{Payload};
+    ghost use Rattle.rws_reply.specs.Tracking.{Tracks, Judges};
+
+    pub fn new(kind: Kind) -> ReplyTracker
+        ensures { Tracks result kind [] }
+    {
+        let awaits = match kind {
+            Kind::Simple => Awaits::Simple,
+            Kind::Query => Awaits::Query,
+            Kind::Prepare => Awaits::Prepare,
+            Kind::FieldList => Awaits::FieldList,
+        };
+        ReplyTracker { awaits }
+    }
+
+    /// Takes the next payload of the reply.
+    pub fn step(&mut self, payload: &[u8]) -> Result<Progress, BadReply>
+        // Whatever payloads came before: the answer is true of all that came so far.
+        ensures judged { (kind : Kind) (sofar : List Payload) → Tracks self.old kind sofar
+            → Judges kind (sofar ++ payload.now ∷ []) result }
+        ensures goes_on { (kind : Kind) (sofar : List Payload) → Tracks self.old kind sofar → result ≡ Ok More
+            → Tracks self.new kind (sofar ++ payload.now ∷ []) }
+    {
+        match after(self.awaits, payload) {
+            Step::Goes(awaits) => {
+                self.awaits = awaits;
+                Ok(Progress::More)
+            }
+            Step::Done(status) => Ok(Progress::Done { status }),
+            Step::Failed(code) => Ok(Progress::Failed { code }),
+            Step::Wrong => Err(BadReply),
+        }
+    }
+}

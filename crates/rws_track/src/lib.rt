@@ -1,0 +1,9 @@
+//! What an OK reports of the state of its session: the GTID of the last commit.
+#![tactic(auto)]
+
+mod state;
+#[cfg(test)]
+mod tests;
+mod track;
+
+pub use track::{gtid_of, strip};

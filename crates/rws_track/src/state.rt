@@ -1,0 +1,104 @@
+//! Reads the system variables in a session's state.
+
+ghost use Rattle.std.specs.Prelude.{◌≡◌, List, ℕ, length, IfOk, OnErr, Result, Ok, Err};
+ghost use Rattle.rws_track.specs.State.{Variable, AreVariables, EntryShows, Shows, text_front, gtid_in, later, last_gtid, Finds};
+
+use rws_gtid::{Gtid, parse};
+use rws_wire::read_lenenc;
+
+/// An entry or a variable breaks off.
+#[derive(Drop)]
+pub struct BrokenOff;
+
+/// The length-encoded text at the front, and the bytes behind it.
+#[tactic(auto, unfolding(crate::specs::State::text_front))]
+fn text(bytes: &[u8]) -> Result<(&[u8], &[u8]), BrokenOff>
+    ensures { Finds (λ found. (found.0.now, found.1.now)) result (text_front bytes.now) }
+{
+    let (size, start) = read_lenenc(bytes, 0).ok_or(BrokenOff)?;
+    let rest = &bytes[start..];
+    if (rest.len() as u64) < size {
+        return Err(BrokenOff);
+    }
+    Ok(rest.split_at(size as usize))
+}
+
+/// The GTID of the domain that the variable names.
+fn gtid_of_variable(name: &[u8], value: &[u8], domain: u32) -> Option<Gtid>
+    ensures { result ≡ gtid_in domain (name.now, value.now) }
+{
+    if name != b"last_gtid".as_slice() {
+        return None;
+    }
+    match parse(value) {
+        Ok(gtid) if gtid.domain == domain => Some(gtid),
+        _ => None,
+    }
+}
+
+/// The later of two, where it is there.
+fn later_of(earlier: Option<Gtid>, gtid: Option<Gtid>) -> Option<Gtid>
+    ensures { result ≡ later earlier gtid }
+{
+    match gtid {
+        Some(gtid) => Some(gtid),
+        None => earlier,
+    }
+}
+
+/// The last GTID of the domain among the variables, or else the one found before.
+fn last_in_variables(
+    bytes: &[u8],
+    domain: u32,
+    found: Option<Gtid>,
+) -> Result<Option<Gtid>, BrokenOff>
+    ensures read { IfOk result (λ last. (variables : List Variable) × AreVariables bytes.now variables
+        × (last ≡ later found (last_gtid domain variables))) }
+    ensures broken { OnErr result ((variables : List Variable) → ¬ AreVariables bytes.now variables) }
+{
+    let mut last = found;
+    let mut rest = bytes;
+    while !rest.is_empty() {
+        let (name, behind) = text(rest)?;
+        let (value, others) = text(behind)?;
+        last = later_of(last, gtid_of_variable(name, value, domain));
+        rest = others;
+    }
+    Ok(last)
+}
+
+/// The type of an entry that holds system variables, `SESSION_TRACK_SYSTEM_VARIABLES`.
+const VARIABLES: u8 = 0;
+
+/// The last GTID of the domain that the entry names, or else the one found before.
+fn last_in_entry(
+    kind: u8,
+    bytes: &[u8],
+    domain: u32,
+    found: Option<Gtid>,
+) -> Result<Option<Gtid>, BrokenOff>
+    ensures read { IfOk result (λ last. (shown : List Variable) × EntryShows kind bytes.now shown
+        × (last ≡ later found (last_gtid domain shown))) }
+    ensures broken { OnErr result ((shown : List Variable) → ¬ EntryShows kind bytes.now shown) }
+{
+    match kind {
+        VARIABLES => last_in_variables(bytes, domain, found),
+        _ => Ok(found),
+    }
+}
+
+/// The last GTID of the domain that the state names.
+pub fn last_in_state(state: &[u8], domain: u32) -> Result<Option<Gtid>, BrokenOff>
+    ensures read { IfOk result (λ last. (shown : List Variable) × Shows state.now shown
+        × (last ≡ last_gtid domain shown)) }
+    ensures broken { OnErr result ((shown : List Variable) → ¬ Shows state.now shown) }
+{
+    let mut last = None;
+    let mut rest = state;
+    while let [kind, body @ ..] = rest {
+        let (inner, others) = text(body)?;
+        last = last_in_entry(*kind, inner, domain, last)?;
+        rest = others;
+    }
+    Ok(last)
+}

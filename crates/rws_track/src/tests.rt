@@ -1,0 +1,72 @@
+//! OKs that name GTIDs, and their form for clients.
+
+use crate::{gtid_of, strip};
+use rws_gtid::Gtid;
+use rws_msgs::OkMsg;
+use rws_wire::Text;
+use std::alloc::{AllocError, Global};
+use std::test::Fail;
+
+/// An OK of one changed row that names the GTID 0-1-7.
+const NAMED: &[u8] = b"\x00\x01\x00\x02\x40\x00\x00\x00\x12\x00\x10\x09last_gtid\x050-1-7";
+/// A schema, which is an entry of another type, and then three GTIDs and a variable of another name.
+const STATE: &[u8] =
+    b"\x01\x02\x01t\x00\x20\x09last_gtid\x050-1-7\x09last_gtid\x050-1-8\x00\x14\x09last_gtid\x051-1-9\x01a\x01b";
+
+fn ok_with(alloc: Global, state: &[u8]) -> Result<OkMsg, AllocError> {
+    Ok(OkMsg {
+        affected: 0,
+        insert_id: 0,
+        status: 0x4002,
+        warnings: 0,
+        info: Text::empty(alloc),
+        state: Text::from_slice(alloc, state)?,
+    })
+}
+
+#[test]
+fn named_gtid(rt: HostRuntime) -> Result<(), Fail> {
+    let alloc = rt.alloc();
+    let ok = OkMsg::decode(alloc, NAMED, true)?;
+    assert_eq!(rt;
+        gtid_of(&ok, 0),
+        Some(Gtid {
+            domain: 0,
+            server: 1,
+            sequence: 7
+        })
+    );
+    assert_eq!(rt; gtid_of(&ok, 1), None);
+    let mut out = Vec::new(alloc);
+    strip(alloc, &ok)?.encode(false, &mut out)?;
+    assert_eq!(rt; out.as_slice(), b"\x00\x01\x00\x02\x00\x00\x00".as_slice());
+    Ok(())
+}
+
+#[test]
+fn several_entries(rt: HostRuntime) -> Result<(), Fail> {
+    let alloc = rt.alloc();
+    let ok = ok_with(alloc, STATE)?;
+    assert_eq!(rt;
+        gtid_of(&ok, 0),
+        Some(Gtid {
+            domain: 0,
+            server: 1,
+            sequence: 8
+        })
+    );
+    assert_eq!(rt;
+        gtid_of(&ok, 1),
+        Some(Gtid {
+            domain: 1,
+            server: 1,
+            sequence: 9
+        })
+    );
+    assert_eq!(rt; gtid_of(&ok_with(alloc, b"\x00\x02\xfba")?, 0), None);
+    for end in 0..STATE.len() {
+        let cut = ok_with(alloc, &STATE[..end])?;
+        assert!(rt; gtid_of(&cut, 1).is_none());
+    }
+    Ok(())
+}
