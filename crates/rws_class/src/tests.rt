@@ -2,6 +2,7 @@
 
 use crate::{Class, classify};
 use std::process::Abort;
+use std::test::Fail;
 
 const WORKED: [(&str, Class); 22] = [
     ("select 1", Class::Read),
@@ -469,4 +470,14 @@ fn settings_3_have_their_classes(rt: HostRuntime) {
 #[test]
 fn anything_else_have_their_classes(rt: HostRuntime) {
     each_has_its_class(&rt, &ANYTHING_ELSE);
+}
+
+#[test]
+fn a_text_of_a_mebibyte(rt: HostRuntime) -> Result<(), Fail> {
+    let mut text = Vec::from_slice(rt.alloc(), b"select a")?;
+    for _ in 0..131_072 {
+        text.extend_from_slice(b", a, abc")?;
+    }
+    assert_eq!(rt; classify(&text), Class::Read);
+    Ok(())
 }
