@@ -1,13 +1,12 @@
 -- Digits that are read from left to right.
-use Rattle.std.proofs.Common.{◌≡◌, ℕ, zero, suc, ◌+◌, ◌*◌, ◌<◌, ◌≤◌, Bool, true, false, cond, not, List, [], ◌∷◌, length, take, drop, get_or, refl, sym, ap, ◌∙◌, arith, rules, tests, Option, Some, None, drop-cons, add-one, one-add, subst}
-use Rattle.std.specs.List.{position_or_len, before_first}
-use Rattle.std.specs.Int.{IsInRange, is_in_range}
+use Rattle.std.proofs.Common.{◌≡◌, ℕ, suc, ◌+◌, ◌*◌, ◌<◌, ◌≤◌, Bool, true, false, not, List, [], ◌∷◌, length, drop, get_or, refl, arith, None, drop-cons, one-add}
+use Rattle.std.specs.List.{before_first}
+use Rattle.std.specs.Int.{IsInRange}
 use Rattle.std.specs.Char.{digit_value, is_ascii_digit}
 use Rattle.std.specs.Str.Parse.{digits_value, digits_value_after, AllDigits}
 use Rattle.std.proofs.lemmas.Str.{digit_value_digit}
-use Rattle.std.proofs.lemmas.Str.Parse.{digit_from_value}
 use Rattle.std.proofs.lemmas.Bool.Decides.{nat_tests}
-use Rattle.rws_gtid.specs.Reading.{digits_of, at_most}
+use Rattle.rws_gtid.specs.Reading.{at_most}
 
 -- after the first i digits, none of which took the number above the most
 pub record Counted (digits : List ℕ) (i value most : ℕ) : Type 0 where

@@ -1,7 +1,6 @@
 -- What is read as a GTID is spelled so, and what is spelled so is read.
-use Rattle.std.proofs.Common.{◌≡◌, ◌==◌, ℕ, zero, suc, ◌+◌, ◌-◌, ◌*◌, ◌^◌, ◌<◌, ◌≤◌, Bool, true, false, cond, not, List, [], ◌∷◌, ◌++◌, length, take, drop, get_or, refl, sym, ap, ◌∙◌, subst, arith, Option, Some, None, Result, Ok, Err, IfOk, one-add, nat_le, append_assoc, append-nil}
-use Rattle.std.specs.Int.{IsInRange as IsBetween}
-use Rattle.std.specs.List.{before_first, position_or_len, prefix_len}
+use Rattle.std.proofs.Common.{◌≡◌, ◌==◌, ℕ, zero, suc, ◌+◌, ◌-◌, ◌^◌, ◌<◌, ◌≤◌, Bool, true, false, cond, not, List, [], ◌∷◌, ◌++◌, length, take, drop, get_or, refl, sym, ap, ◌∙◌, subst, arith, Result, Ok, Err, IfOk, one-add, nat_le, append-nil}
+use Rattle.std.specs.List.{before_first, position_or_len}
 use Rattle.std.specs.Char.{digit_value, is_ascii_digit}
 use Rattle.std.specs.Str.Parse.{digits_value, AllDigits}
 use Rattle.std.specs.Fmt.{decimal}
@@ -97,7 +96,7 @@ at_most n most h = grind (arith, nat_tests)
 is_some_length : (n : ℕ) → (n == 0) ≡ false → 0 < n
 is_some_length n e = grind (arith, nat_tests)
 
-not_zero : (n : ℕ) → 0 < n → (n == 0) ≡ false
+pub not_zero : (n : ℕ) → 0 < n → (n == 0) ≡ false
 not_zero n h = grind (arith, nat_tests)
 
 -- the number n was taken from the front
@@ -105,11 +104,11 @@ pub record Takes (most : ℕ) (from : Rest) (n : ℕ) (to : Rest) : Type 0 where
   pub text : from.1 ≡ decimal n ++ to.1
   pub small : n ≤ most
 
-abbrev done : {A : Type 0} → A → Result A GtidFault
+abbrev pub done : {A : Type 0} → A → Result A GtidFault
 done x = Ok x
 
-number_is : (a b : ℕ × Rest) → done a ≡ done b → a ≡ b
-number_is a b e = cc
+pub done_is : {A : Type 0} (a b : A) → done a ≡ done b → a ≡ b
+done_is a b e = cc
 
 pub number_takes : (most : ℕ) (from : Rest) (n : ℕ) (to : Rest) → most < 2 ^ 64 → number_at most from ≡ Ok (n, to) → Takes most from n to
 unfolding number_at
@@ -120,7 +119,7 @@ number_takes most from n to fits e = none (length (digits_of from.1) == 0) refl 
 
     fine : 0 < length (digits_of from.1) → (test : Bool) → nat_le value most ≡ test → cond {A = Result (ℕ × Rest) GtidFault} test (Ok (value, behind (length (digits_of from.1)) from)) (Err (TooBig from.0)) ≡ Ok (n, to) → Takes most from n to
     fine some_ true e f =
-        let same = number_is (value, behind (length (digits_of from.1)) from) (n, to) f in
+        let same = done_is (value, behind (length (digits_of from.1)) from) (n, to) f in
         let small = is_at_most value most e in
         subst (λ (x : ℕ × Rest). Takes most from x.0 x.1) same (record {
           text = sym (ap (λ (ds : List ℕ). ds ++ drop (length (digits_of from.1)) from.1) (decimal-digits_value own (digits_of from.1) (all_digits from.1) some_ (one_zero from.1) (omega arith)) ∙ digits_split from.1);
@@ -156,26 +155,20 @@ unfolding dash_at
 dash_takes at [] to e = absurd cc
 dash_takes at (b ∷ bs) to e = by (b == 45) refl e
   where
-    rest_is : (a c : Rest) → done a ≡ done c → a ≡ c
-    rest_is a c e = cc
-
     by : (test : Bool) → (b == 45) ≡ test → cond {A = Result Rest GtidFault} test (Ok (at + 1, bs)) (Err (NotAGtid at)) ≡ Ok to → b ∷ bs ≡ 45 ∷ to.1
     by true f e =
         let same : b ≡ 45 = grind (arith, nat_tests) in
-        let rest = rest_is (at + 1, bs) to e in
+        let rest = done_is (at + 1, bs) to e in
         ap (λ (c : ℕ). c ∷ bs) same ∙ ap (λ (r : Rest). 45 ∷ r.1) rest
     by false f e = absurd cc
 
-bind_ok : {A B : Type 0} (r : Result A GtidFault) (f : A → Result B GtidFault) (y : B) → (r >>= f) ≡ Ok y → (x : A) × (r ≡ Ok x) × (f x ≡ Ok y)
+pub bind_ok : {A B : Type 0} (r : Result A GtidFault) (f : A → Result B GtidFault) (y : B) → (r >>= f) ≡ Ok y → (x : A) × (r ≡ Ok x) × (f x ≡ Ok y)
 bind_ok (Ok x) f y e = (x, refl, e)
 bind_ok (Err d) f y e = absurd cc
 
 -- the text ends here, and the numbers are those of the GTID
 ends_as : (made gtid : Gtid) (bytes : List ℕ) (at : ℕ) → cond (length bytes == 0) (done made) (Err (NotAGtid at)) ≡ Ok gtid → (made ≡ gtid) × (bytes ≡ [])
-ends_as made gtid [] at e = (gtid_is made gtid e, refl)
-  where
-    gtid_is : (a b : Gtid) → done a ≡ done b → a ≡ b
-    gtid_is a b e = cc
+ends_as made gtid [] at e = (done_is made gtid e, refl)
 ends_as made gtid (b ∷ bs) at e = absurd (let none = rw eqb-suc-zero at e in cc)
 
 pub gtid_takes : (text : Rest) (gtid : Gtid) → gtid_at text ≡ Ok gtid → IsInRange gtid × (text.1 ≡ gtid_text gtid)

@@ -1,5 +1,5 @@
 -- Reading a GTID, or a list of them, from left to right, with the first fault that is met.
-use Rattle.std.specs.Prelude.{◌≡◌, slice_index, ℕ, ◌+◌, ◌^◌, ◌==◌, Bool, not, List, [], ◌∷◌, length, drop, Option, None, Result, Ok, Err, nat_le, Some, ◌-◌, if◌then◌else◌, find}
+use Rattle.std.specs.Prelude.{◌≡◌, slice_index, ℕ, ◌+◌, ◌^◌, ◌==◌, not, List, [], ◌∷◌, length, drop, Option, None, Result, Ok, Err, nat_le, Some, ◌-◌, if◌then◌else◌, find}
 use Rattle.std.specs.List.{before_first, slice_split}
 use Rattle.std.specs.Char.{is_ascii_digit}
 use Rattle.std.specs.Str.Parse.{digits_value}

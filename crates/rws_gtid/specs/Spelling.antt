@@ -1,6 +1,6 @@
 -- The texts of a GTID and of a list of GTIDs, as MariaDB writes them.
 use Rattle.std.specs.Prelude.{ℕ, ◌<◌, ◌^◌, List, ◌∷◌, ◌++◌, map, codes}
-use Rattle.std.specs.List.{join_with_byte}
+use Rattle.std.specs.List.{AllByRecursion, join_with_byte}
 use Rattle.std.specs.Fmt.{decimal}
 use Rattle.rws_gtid.specs.declared.Gtid.{Gtid}
 
@@ -13,6 +13,10 @@ pub record IsInRange (gtid : Gtid) : Type 0 where
 -- three decimal numbers, parted by dashes
 abbrev pub gtid_text : Gtid → List ℕ
 gtid_text gtid = decimal gtid.domain ++ (45 ∷ (decimal gtid.server ++ (45 ∷ decimal gtid.sequence)))
+
+-- the fields of each entry hold it
+abbrev pub AreInRange : List Gtid → Type 0
+AreInRange gtids = AllByRecursion IsInRange gtids
 
 -- the texts of the entries, parted by commas
 abbrev pub list_text : List Gtid → List ℕ

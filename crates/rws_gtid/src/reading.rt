@@ -5,7 +5,7 @@ ghost use Rattle.std.specs.List.{before_first};
 ghost use Rattle.std.specs.Char.{digit_value, is_ascii_digit};
 ghost use Rattle.std.specs.Str.Parse.{digits_value, AllDigits};
 ghost use Rattle.rws_gtid.specs.Reading.{Reads, at_most, behind, digits_of, number_at, dash_at, gtid_at, gtids_of, entry_of, position_in, CutsAtComma, earlier};
-ghost use Rattle.rws_gtid.specs.Spelling.{IsInRange, gtid_text};
+ghost use Rattle.rws_gtid.specs.Spelling.{AreInRange, IsInRange, gtid_text, list_text};
 ghost use Rattle.rws_gtid.specs.declared.Gtid.{Gtid};
 
 use crate::{Gtid, GtidFault};
@@ -168,9 +168,8 @@ fn found_by(found: Option<Gtid>, gtid: Gtid, domain: u32) -> Option<Gtid>
     found
 }
 
-/// The first entry of the domain in a list of GTIDs that commas part, as `@@gtid_current_pos` shows them. The
-/// empty text is the list without entries.
-pub fn position_of(list: &[u8], domain: u32) -> Result<Option<Gtid>, GtidFault>
+/// The first entry of the domain in a list.
+fn first_of(list: &[u8], domain: u32) -> Result<Option<Gtid>, GtidFault>
     ensures { result ≡ position_in domain list.now }
 {
     if list.is_empty() {
@@ -189,4 +188,16 @@ pub fn position_of(list: &[u8], domain: u32) -> Result<Option<Gtid>, GtidFault>
         at += entry.len() + 1;
         rest = others;
     }
+}
+
+/// The first entry of the domain in a list of GTIDs that commas part, as `@@gtid_current_pos` shows them. The
+/// empty text is the list without entries. A list with a fault anywhere has no entries: the first one is answered.
+pub fn position_of(list: &[u8], domain: u32) -> Result<Option<Gtid>, GtidFault>
+    ensures read { result ≡ position_in domain list.now }
+
+    // What is read is a list that is spelled so, and a list that is spelled so is read.
+    ensures spelled { IfOk result (λ found. (gtids : List Gtid) × (list.now ≡ list_text gtids) × (found ≡ entry_of domain gtids)) }
+    ensures only { (gtids : List Gtid) → AreInRange gtids → list.now ≡ list_text gtids → result ≡ Ok (entry_of domain gtids) }
+{
+    first_of(list, domain)
 }

@@ -1,4 +1,3 @@
-use Rattle.std.proofs.Common.{rules}
 use Rattle.rws_gtid.proofs.Digits.{digits_in_run}
 use Rattle.rws_gtid.proofs.reading.digits.Goals as goal
 

@@ -1,4 +1,4 @@
-use Rattle.std.proofs.Common.{◌≡◌, ℕ, List, sym, ap, ◌∙◌}
+use Rattle.std.proofs.Common.{ℕ, List, ap, ◌∙◌}
 use Rattle.rws_gtid.specs.Reading.{gtid_at}
 use Rattle.rws_gtid.proofs.Spelled.{spelled_if_ok, gtid_again}
 use Rattle.rws_gtid.proofs.reading.parse.Goals as goal

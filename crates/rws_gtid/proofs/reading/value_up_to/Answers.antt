@@ -1,4 +1,4 @@
-use Rattle.std.proofs.Common.{◌≡◌, sym, ◌∙◌}
+use Rattle.std.proofs.Common.{sym, ◌∙◌}
 use Rattle.rws_gtid.proofs.Digits.{too_big}
 use Rattle.rws_gtid.proofs.reading.value_up_to.Goals as goal
 

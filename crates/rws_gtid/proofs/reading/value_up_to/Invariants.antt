@@ -1,5 +1,3 @@
-use Rattle.std.proofs.Common.{◌≡◌, ◌≤◌, drop}
-use Rattle.std.specs.Str.Parse.{digits_value, digits_value_after, AllDigits}
 use Rattle.rws_gtid.proofs.Digits.{Counted}
 use Rattle.rws_gtid.proofs.reading.value_up_to.Given as goal
 
