@@ -1,9 +1,9 @@
 -- A field that was written is read again, whatever follows it.
-use Rattle.std.proofs.Common.{◌≡◌, ◌≢◌, ℕ, ◌+◌, ◌*◌, ◌^◌, ◌<◌, false, ltb, List, [], ◌∷◌, ◌++◌, length, take, drop, Result, Ok, Err, refl, sym, ap, ◌∙◌, append_assoc, arith, inl, inr}
+use Rattle.std.proofs.Common.{◌≡◌, ◌==◌, ◌≢◌, ℕ, suc, ◌+◌, ◌*◌, ◌^◌, ◌<◌, ◌≤◌, Bool, true, false, cond, nat_lt, ltb, List, [], ◌∷◌, ◌++◌, length, take, drop, Result, Ok, Err, refl, sym, ap, ◌∙◌, append_assoc, arith, inl, inr}
 use Rattle.std.proofs.lemmas.Bool.{cases_lt, lt-ltb, le-ltb, eq-eqb, ne_eqb}
-use Rattle.std.proofs.lemmas.List.{append-nil, length-take-le, take_at, drop_at, length-append}
-use Rattle.rws_wire.specs.Numbers.{bytes_of}
-use Rattle.rws_wire.specs.Lenenc.{lenenc_bytes}
+use Rattle.std.proofs.lemmas.List.{append-nil, length-take-le, take_at, drop_at, length-append, length-drop}
+use Rattle.rws_wire.specs.Numbers.{bytes_of, number_of}
+use Rattle.rws_wire.specs.Lenenc.{Lenenc, Integer, Cut, NoInteger, sized, lenenc, lenenc_bytes}
 use Rattle.rws_wire.proofs.NumberLemmas.{length-bytes_of, number_of-bytes_of}
 use Rattle.rws_wire.proofs.LenencLemmas.{lenenc-lenenc_bytes}
 use Rattle.rws_msgs.specs.declared.fault.MsgFault.{MsgFault}
@@ -77,6 +77,61 @@ text_again text rest lt =
     ap text_at (append_assoc (lenenc_bytes (length text)) text rest)
     ∙ ap (λ r. r >>= λ size. bytes_at size.0 size.1) (lenenc_again (length text) (text ++ rest) lt)
     ∙ bytes_again text rest (length text) refl
+
+-- ---- what is read takes a byte or more
+
+Integer-rest : (a : ℕ) (b : List ℕ) (c : ℕ) (d : List ℕ) → Integer a b ≡ Integer c d → b ≡ d
+Integer-rest a b c d e = cc
+
+sized_within : (size : ℕ) (bytes : List ℕ) (value : ℕ) (rest : List ℕ) → sized size bytes ≡ Integer value rest → length rest ≤ length bytes
+sized_within size bytes value rest e = by (nat_lt (length bytes) size) e
+  where
+    by : (test : Bool) → cond test Cut (Integer (number_of (take size bytes)) (drop size bytes)) ≡ Integer value rest → length rest ≤ length bytes
+    by true e = absurd cc
+    by false e = rw (← Integer-rest _ (drop size bytes) value rest e, length-drop) (omega arith)
+
+lenenc_shorter : (bytes : List ℕ) (value : ℕ) (rest : List ℕ) → lenenc bytes ≡ Integer value rest → length rest < length bytes
+unfolding lenenc
+lenenc_shorter [] value rest e = absurd cc
+lenenc_shorter (b ∷ bs) value rest e = lt-of_le (by (nat_lt b 0xFB) (b == 0xFC) (b == 0xFD) (b == 0xFE) e)
+  where
+    lt-of_le : {m n : ℕ} → m ≤ n → m < suc n
+    lt-of_le h = omega arith
+
+    by : (one two three eight : Bool) → cond one (Integer b bs) (cond two (sized 2 bs) (cond three (sized 3 bs) (cond eight (sized 8 bs) NoInteger))) ≡ Integer value rest → length rest ≤ length bs
+    by true two three eight e = rw (← Integer-rest b bs value rest e) (omega arith)
+    by false true three eight e = sized_within 2 bs value rest e
+    by false false true eight e = sized_within 3 bs value rest e
+    by false false false true e = sized_within 8 bs value rest e
+    by false false false false e = absurd cc
+
+integer_read : (read : Lenenc) (value : ℕ) (rest : List ℕ) → integer_or_fault read ≡ Ok (value, rest) → read ≡ Integer value rest
+integer_read (Integer a b) value rest e =
+    let same = ok_is (a, b) (value, rest) e in
+    ap (λ (p : ℕ × List ℕ). Integer p.0 p.1) same
+integer_read Cut value rest e = absurd cc
+integer_read NoInteger value rest e = absurd cc
+
+bytes_within : (size : ℕ) (bytes text rest : List ℕ) → bytes_at size bytes ≡ Ok (text, rest) → length rest ≤ length bytes
+unfolding bytes_at
+bytes_within size bytes text rest e = by (nat_lt (length bytes) size) e
+  where
+    by : (test : Bool) → cond {A = Result (List ℕ × List ℕ) MsgFault} test (Err Short) (Ok (take size bytes, drop size bytes)) ≡ Ok (text, rest) → length rest ≤ length bytes
+    by true e = absurd cc
+    by false e = let same = ok_is (take size bytes, drop size bytes) (text, rest) e in
+        rw (← ap (λ (p : List ℕ × List ℕ). p.1) same, length-drop) (omega arith)
+
+pub text_shorter : (bytes text rest : List ℕ) → text_at bytes ≡ Ok (text, rest) → length rest < length bytes
+unfolding text_at lenenc_at
+text_shorter bytes text rest e =
+    let size = bind_ok (integer_or_fault (lenenc bytes)) (λ size. bytes_at size.0 size.1) (text, rest) e in
+    let behind = lenenc_shorter bytes size.0.0 size.0.1 (integer_read (lenenc bytes) size.0.0 size.0.1 size.1) in
+    let within = bytes_within size.0.0 size.0.1 text rest size.2 in
+    omega arith
+
+pub text_at_nothing : text_at [] ≡ Err Short
+unfolding text_at lenenc_at lenenc
+text_at_nothing = refl
 
 -- ---- the end of a payload
 

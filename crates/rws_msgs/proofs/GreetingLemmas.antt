@@ -1,5 +1,5 @@
 -- A greeting is decoded again from what `encode` writes.
-use Rattle.std.proofs.Common.{◌≡◌, ℕ, ◌^◌, ◌<◌, List, [], ◌∷◌, ◌++◌, length, take, drop, replicate, Result, Ok, refl, sym, ap, ◌∙◌, append_assoc, arith}
+use Rattle.std.proofs.Common.{◌≡◌, ℕ, List, [], ◌∷◌, ◌++◌, length, take, drop, replicate, Result, Ok, refl, ap, ◌∙◌, append_assoc, arith}
 use Rattle.std.proofs.lemmas.List.{append-nil, length-take-le, length-drop, take-append-drop, take_at, drop_at}
 use borrow.Rule.Slice.PartMut.{put_mid}
 use Rattle.rws_wire.specs.Numbers.{bytes_of, number_of}
@@ -7,8 +7,7 @@ use Rattle.rws_wire.proofs.NumberLemmas.{length-bytes_of, number_of-bytes_of}
 use Rattle.rws_msgs.specs.declared.fault.MsgFault.{MsgFault}
 use Rattle.rws_msgs.specs.declared.greeting.Greeting.{Greeting}
 use Rattle.rws_msgs.specs.declared.greeting.Abilities.{Abilities}
-use Rattle.rws_msgs.specs.Reading.{◌>>=◌}
-use Rattle.rws_msgs.specs.Fields.{HasNoZero, or_all, last_text_at, ended}
+use Rattle.rws_msgs.specs.Fields.{HasNoZero, last_text_at, ended}
 use Rattle.rws_msgs.specs.GreetingLayout.{GreetingFits, abilities_at, abilities_bytes, back_bytes, front_bytes, greeting_at, greeting_bytes, last_piece_at, plugin_at}
 use Rattle.rws_msgs.proofs.FieldLemmas.{fixed_again, number_again, byte_again, bytes_again, zero_text_again}
 

@@ -1,11 +1,10 @@
 -- A response is decoded again from what `encode` writes.
-use Rattle.std.proofs.Common.{◌≡◌, ℕ, ◌^◌, ◌<◌, ◌%◌, Bool, true, false, List, [], ◌∷◌, ◌++◌, length, replicate, Option, Some, None, Result, Ok, refl, ap, ◌∙◌, append_assoc, arith}
+use Rattle.std.proofs.Common.{◌≡◌, ℕ, ◌^◌, ◌<◌, ◌%◌, Bool, true, false, List, [], ◌∷◌, ◌++◌, length, replicate, Option, Some, None, Ok, refl, append_assoc, arith}
 use Rattle.std.specs.Prelude.{◌&&◌, not}
 use Rattle.rws_wire.specs.Lenenc.{lenenc}
 use Rattle.rws_wire.specs.Numbers.{bytes_of}
 use Rattle.rws_msgs.specs.declared.response.Response.{Response}
-use Rattle.rws_msgs.specs.Reading.{◌>>=◌}
-use Rattle.rws_msgs.specs.Fields.{HasNoZero, bytes_at, ended, last_text_at, lenenc_at, text_at}
+use Rattle.rws_msgs.specs.Fields.{bytes_at, ended, last_text_at, lenenc_at, text_at}
 use Rattle.rws_msgs.specs.ResponseLayout.{AnswerFits, IsResponse, NameFits, answer_at, answer_bytes, attributes_at, attributes_bytes, front_bytes, name_at, name_bytes, names_at, names_bytes, response_at, response_bytes, with_attributes, with_database, with_lenenc, with_plugin}
 use Rattle.rws_msgs.specs.ResponseParts.{ResponseFits}
 use Rattle.rws_msgs.proofs.FieldLemmas.{bytes_again, byte_again, number_again, text_again, zero_text_again}

@@ -29,7 +29,7 @@ integer_or_fault NoInteger = Err BadLenenc
 unfoldable pub lenenc_at : List ℕ → Result (ℕ × List ℕ) MsgFault
 lenenc_at bytes = integer_or_fault (lenenc bytes)
 
--- a length-encoded text
+-- a length-encoded text: its length, and so many bytes
 unfoldable pub text_at : List ℕ → Result (List ℕ × List ℕ) MsgFault
 text_at bytes = do
   size ← lenenc_at bytes

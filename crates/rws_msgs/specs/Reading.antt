@@ -8,12 +8,13 @@ abbrev pub ◌>>=◌ : {A B : Type 0} → Result A MsgFault → (A → Result B 
 (Ok x) >>= f = f x
 (Err fault) >>= f = Err fault
 
--- What a function without memory returned, seen by view, is what reading gives.
+-- What a reader that takes no memory returned is what the definition reads: the same value, seen by view, or the same
+-- fault. The view turns references into what they point to.
 abbrev pub Reads : {X Y : Type 0} → (X → Y) → Result X MsgFault → Result Y MsgFault → Type 0
 Reads view (Ok x) read = read ≡ Ok (view x)
 Reads view (Err fault) read = read ≡ Err fault
 
--- The same of a function that may want memory: then nothing is known.
+-- The same of a reader that may want memory: then nothing is known.
 abbrev pub Gives : {X : Type 0} → Result X MsgFault → Result X MsgFault → Type 0
 Gives (Ok x) read = read ≡ Ok x
 Gives (Err OutOfMemory) read = Unit {0}

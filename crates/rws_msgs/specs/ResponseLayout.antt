@@ -1,5 +1,5 @@
 -- HandshakeResponse41: which fields stand there is said by the client's capabilities.
-use Rattle.std.specs.Prelude.{ℕ, ◌<◌, ◌%◌, Bool, true, false, not, ◌&&◌, ◌==◌, bit_and, if◌then◌else◌, List, [], ◌∷◌, ◌++◌, length, replicate, Option, Some, None, Result, Ok, Err}
+use Rattle.std.specs.Prelude.{ℕ, ◌<◌, ◌%◌, Bool, true, false, not, ◌&&◌, ◌==◌, bit_and, List, [], ◌∷◌, ◌++◌, length, replicate, Option, Some, None, Result, Ok}
 use Rattle.rws_wire.specs.Numbers.{bytes_of}
 use Rattle.rws_msgs.specs.declared.fault.MsgFault.{MsgFault}
 use Rattle.rws_msgs.specs.declared.response.Response.{Response}

@@ -20,6 +20,7 @@ pub use fault::MsgFault;
 pub use greeting::Greeting;
 pub use ok_msg::{OkMsg, ok_status};
 pub use prepare_ok::PrepareOk;
+pub use reading::split_text;
 pub use response::Response;
 pub use switch::Switch;
 

@@ -7,7 +7,7 @@ ghost use Rattle.rws_msgs.specs.OkParts.{ok_of};
 ghost use Rattle.rws_msgs.specs.Reading.{Gives, Reads};
 
 use crate::MsgFault;
-use crate::reading::{end, fixed_at, lenenc_at, text_at, u16_at};
+use crate::reading::{end, fixed_at, lenenc_at, split_text, u16_at};
 use crate::writing::{or_cut, put_text, put_u16};
 use rws_wire::{Text, put_lenenc};
 use std::alloc::{AllocError, Global};
@@ -45,7 +45,7 @@ fn state_of(stated: bool, bytes: &[u8]) -> Result<(&[u8], &[u8]), MsgFault>
     ensures { Reads (λ x. (x.0.now, x.1.now)) result (state_at stated bytes.now) }
 {
     if stated {
-        text_at(bytes)
+        split_text(bytes)
     } else {
         Ok((&[], bytes))
     }
@@ -58,7 +58,7 @@ fn texts_of(stated: bool, bytes: &[u8]) -> Result<(&[u8], &[u8]), MsgFault>
     if bytes.is_empty() {
         return Ok((&[], &[]));
     }
-    let (info, rest) = text_at(bytes)?;
+    let (info, rest) = split_text(bytes)?;
     let (state, rest) = state_of(stated, rest)?;
     end(rest)?;
     Ok((info, state))

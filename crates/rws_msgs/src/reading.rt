@@ -6,14 +6,14 @@ ghost use Rattle.rws_msgs.specs.Reading.{Reads};
 use crate::MsgFault;
 use rws_wire::{LenencFault, split_lenenc};
 
-#[tactic(auto, unfolding(crate::specs::Fields::bytes_at))]
-pub fn bytes_at(size: usize, bytes: &[u8]) -> Result<(&[u8], &[u8]), MsgFault>
-    ensures { Reads (λ x. (x.0.now, x.1.now)) result (bytes_at size bytes.now) }
+#[tactic(auto, unfolding(crate::specs::Fields::number_at))]
+pub fn u8_at(bytes: &[u8]) -> Result<(u8, &[u8]), MsgFault>
+    ensures { Reads (λ x. (x.0, x.1.now)) result (number_at 1 bytes.now) }
 {
-    if bytes.len() < size {
-        return Err(MsgFault::Short);
+    match bytes {
+        [byte, rest @ ..] => Ok((*byte, rest)),
+        [] => Err(MsgFault::Short),
     }
-    Ok(bytes.split_at(size))
 }
 
 #[tactic(auto, unfolding(crate::specs::Fields::number_at))]
@@ -56,6 +56,46 @@ pub fn array5_at(bytes: &[u8]) -> Result<([u8; 5], &[u8]), MsgFault>
     }
 }
 
+#[tactic(auto, unfolding(crate::specs::Fields::bytes_at))]
+pub fn array8_at(bytes: &[u8]) -> Result<([u8; 8], &[u8]), MsgFault>
+    ensures { Reads (λ x. (x.0, x.1.now)) result (bytes_at 8 bytes.now) }
+{
+    match bytes.split_first_chunk::<8>() {
+        Some((chunk, rest)) => Ok((*chunk, rest)),
+        None => Err(MsgFault::Short),
+    }
+}
+
+#[tactic(auto, unfolding(crate::specs::Fields::bytes_at))]
+pub fn array12_at(bytes: &[u8]) -> Result<([u8; 12], &[u8]), MsgFault>
+    ensures { Reads (λ x. (x.0, x.1.now)) result (bytes_at 12 bytes.now) }
+{
+    match bytes.split_first_chunk::<12>() {
+        Some((chunk, rest)) => Ok((*chunk, rest)),
+        None => Err(MsgFault::Short),
+    }
+}
+
+#[tactic(auto, unfolding(crate::specs::Fields::bytes_at))]
+pub fn array20_at(bytes: &[u8]) -> Result<([u8; 20], &[u8]), MsgFault>
+    ensures { Reads (λ x. (x.0, x.1.now)) result (bytes_at 20 bytes.now) }
+{
+    match bytes.split_first_chunk::<20>() {
+        Some((chunk, rest)) => Ok((*chunk, rest)),
+        None => Err(MsgFault::Short),
+    }
+}
+
+#[tactic(auto, unfolding(crate::specs::Fields::bytes_at))]
+pub fn bytes_at(size: usize, bytes: &[u8]) -> Result<(&[u8], &[u8]), MsgFault>
+    ensures { Reads (λ x. (x.0.now, x.1.now)) result (bytes_at size bytes.now) }
+{
+    if bytes.len() < size {
+        return Err(MsgFault::Short);
+    }
+    Ok(bytes.split_at(size))
+}
+
 #[tactic(auto, unfolding(crate::specs::Fields::fixed_at))]
 pub fn fixed_at(byte: u8, bytes: &[u8]) -> Result<&[u8], MsgFault>
     ensures { Reads (λ x. x.now) result (fixed_at byte bytes.now) }
@@ -83,23 +123,14 @@ pub fn lenenc_at(bytes: &[u8]) -> Result<(u64, &[u8]), MsgFault>
     }
 }
 
+/// The length-encoded text that the bytes begin with, and the bytes behind it ("Protocol Data Types", length-encoded
+/// strings). The only errors are `Short` and `BadLenenc`.
 #[tactic(auto, unfolding(crate::specs::Fields::text_at))]
-pub fn text_at(bytes: &[u8]) -> Result<(&[u8], &[u8]), MsgFault>
+pub fn split_text(bytes: &[u8]) -> Result<(&[u8], &[u8]), MsgFault>
     ensures { Reads (λ x. (x.0.now, x.1.now)) result (text_at bytes.now) }
 {
     let (size, rest) = lenenc_at(bytes)?;
     bytes_at(size as usize, rest)
-}
-
-#[tactic(auto, unfolding(crate::specs::Fields::ended))]
-pub fn end(bytes: &[u8]) -> Result<(), MsgFault>
-    ensures { Reads (λ x. x) result (ended tt bytes.now) }
-{
-    if bytes.is_empty() {
-        Ok(())
-    } else {
-        Err(MsgFault::Trailing)
-    }
 }
 
 pub fn zero_text_at(bytes: &[u8]) -> Result<(&[u8], &[u8]), MsgFault>
@@ -127,42 +158,13 @@ pub fn last_text_at(bytes: &[u8]) -> (&[u8], &[u8])
     }
 }
 
-#[tactic(auto, unfolding(crate::specs::Fields::number_at))]
-pub fn u8_at(bytes: &[u8]) -> Result<(u8, &[u8]), MsgFault>
-    ensures { Reads (λ x. (x.0, x.1.now)) result (number_at 1 bytes.now) }
+#[tactic(auto, unfolding(crate::specs::Fields::ended))]
+pub fn end(bytes: &[u8]) -> Result<(), MsgFault>
+    ensures { Reads (λ x. x) result (ended tt bytes.now) }
 {
-    match bytes {
-        [byte, rest @ ..] => Ok((*byte, rest)),
-        [] => Err(MsgFault::Short),
-    }
-}
-
-#[tactic(auto, unfolding(crate::specs::Fields::bytes_at))]
-pub fn array20_at(bytes: &[u8]) -> Result<([u8; 20], &[u8]), MsgFault>
-    ensures { Reads (λ x. (x.0, x.1.now)) result (bytes_at 20 bytes.now) }
-{
-    match bytes.split_first_chunk::<20>() {
-        Some((chunk, rest)) => Ok((*chunk, rest)),
-        None => Err(MsgFault::Short),
-    }
-}
-
-#[tactic(auto, unfolding(crate::specs::Fields::bytes_at))]
-pub fn array8_at(bytes: &[u8]) -> Result<([u8; 8], &[u8]), MsgFault>
-    ensures { Reads (λ x. (x.0, x.1.now)) result (bytes_at 8 bytes.now) }
-{
-    match bytes.split_first_chunk::<8>() {
-        Some((chunk, rest)) => Ok((*chunk, rest)),
-        None => Err(MsgFault::Short),
-    }
-}
-
-#[tactic(auto, unfolding(crate::specs::Fields::bytes_at))]
-pub fn array12_at(bytes: &[u8]) -> Result<([u8; 12], &[u8]), MsgFault>
-    ensures { Reads (λ x. (x.0, x.1.now)) result (bytes_at 12 bytes.now) }
-{
-    match bytes.split_first_chunk::<12>() {
-        Some((chunk, rest)) => Ok((*chunk, rest)),
-        None => Err(MsgFault::Short),
+    if bytes.is_empty() {
+        Ok(())
+    } else {
+        Err(MsgFault::Trailing)
     }
 }

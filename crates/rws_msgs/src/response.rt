@@ -6,7 +6,7 @@ ghost use Rattle.rws_msgs.specs.ResponseLayout.{AnswerFits, IsResponse, NameFits
 ghost use Rattle.rws_msgs.specs.ResponseParts.{ResponseFits, name_of, response_of};
 
 use crate::MsgFault;
-use crate::reading::{bytes_at, end, last_text_at, text_at, u8_at, u32_at, zero_text_at};
+use crate::reading::{bytes_at, end, last_text_at, split_text, u8_at, u32_at, zero_text_at};
 use crate::writing::{or_cut, put_text, put_u32};
 use rws_wire::Text;
 use std::alloc::{AllocError, Global};
@@ -60,7 +60,7 @@ fn answer_of(lenenc: bool, bytes: &[u8]) -> Result<(&[u8], &[u8]), MsgFault>
     ensures reads { Reads (λ x. (x.0.now, x.1.now)) result (answer_at lenenc bytes.now) }
 {
     if lenenc {
-        return text_at(bytes);
+        return split_text(bytes);
     }
     let (size, rest) = u8_at(bytes)?;
     bytes_at(size as usize, rest)
@@ -89,7 +89,7 @@ fn behind_attributes(given: bool, bytes: &[u8]) -> Result<&[u8], MsgFault>
     if !given {
         return Ok(bytes);
     }
-    let (_, rest) = text_at(bytes)?;
+    let (_, rest) = split_text(bytes)?;
     Ok(rest)
 }
 

@@ -108,6 +108,16 @@ fn other_faults(rt: HostRuntime) {
 }
 
 #[test]
+fn texts_are_split_off(rt: HostRuntime) {
+    assert_eq!(rt;
+        split_text(b"\x02abc"),
+        Ok((b"ab".as_slice(), b"c".as_slice()))
+    );
+    assert_eq!(rt; split_text(b"\x02a"), Err(MsgFault::Short));
+    assert_eq!(rt; split_text(b"\xFBa"), Err(MsgFault::BadLenenc));
+}
+
+#[test]
 fn messages_are_written_as_they_were_read(rt: HostRuntime) -> Result<(), Fail> {
     let mut out = Vec::new(rt.alloc());
     let ok = OkMsg::decode(rt.alloc(), &OK, true)?;

@@ -1,4 +1,3 @@
-use Rattle.std.proofs.Common.{◌≡◌, ◌++◌}
 use Rattle.rws_msgs.proofs.GreetingLemmas.{joined_is}
 use Rattle.rws_msgs.proofs.greeting.joined.Goals as goal
 
