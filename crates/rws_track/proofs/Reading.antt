@@ -1,80 +1,16 @@
 -- A state that is read from left to right, with the last GTID so far.
-use Rattle.std.proofs.Common.{◌≡◌, ℕ, zero, suc, ◌+◌, ◌-◌, ◌<◌, ◌≤◌, Bool, true, false, cond, List, [], ◌∷◌, ◌++◌, length, take, drop, refl, sym, ap, ◌∙◌, subst, arith, Option, Some, None, nat_lt, length-drop, get_or}
+use Rattle.std.proofs.Common.{◌≡◌, ℕ, zero, suc, ◌-◌, ◌<◌, ◌≤◌, Bool, true, false, List, [], ◌∷◌, ◌++◌, length, take, drop, refl, sym, ap, ◌∙◌, subst, arith, Option, Some, None, get_or}
 use Rattle.std.proofs.lemmas.Bool.Decides.{nat_tests}
 use Rattle.std.proofs.lemmas.List.{take_rest}
-use Rattle.std.specs.Option.{option_map}
-use Rattle.rws_wire.specs.Lenenc.{lenenc, Lenenc, Integer, Cut, NoInteger, integer, integer_at, sized}
-use Rattle.rws_wire.specs.Numbers.{number_of}
-use Rattle.std.specs.Prelude.{◌==◌, option_and_then, Result, Ok, Err, OnErr, IfOk}
+use Rattle.std.specs.Prelude.{◌==◌, Result, Ok, Err, OnErr, IfOk}
 use Rattle.std.specs.Result.{result_unwrap_or}
+use Rattle.rws_msgs.specs.declared.fault.MsgFault.{MsgFault}
+use Rattle.rws_msgs.specs.Fields.{text_at}
+use Rattle.rws_msgs.proofs.FieldLemmas.{ok_is, text_at_nothing}
 use Rattle.rws_track.specs.declared.state.BrokenOff.{BrokenOff}
 use Rattle.rws_gtid.specs.declared.Gtid.{Gtid}
 use Rattle.rws_track.specs.State as state
-use Rattle.rws_track.specs.State.{Variable, AreVariables, EntryShows, Shows, text_front, gtid_in, later, last_gtid}
-
--- ---- a text takes a byte or more
-
-integer_is : (a : ℕ) (b : List ℕ) (c : ℕ) (d : List ℕ) → Integer a b ≡ Integer c d → b ≡ d
-integer_is a b c d e = cc
-
-sized_shorter : (size : ℕ) (bytes : List ℕ) (value : ℕ) (rest : List ℕ) → sized size bytes ≡ Integer value rest → length rest ≤ length bytes
-sized_shorter size bytes value rest e = by (nat_lt (length bytes) size) e
-  where
-    by : (test : Bool) → cond test Cut (Integer (number_of (take size bytes)) (drop size bytes)) ≡ Integer value rest → length rest ≤ length bytes
-    by true e = absurd cc
-    by false e = rw (← integer_is _ (drop size bytes) value rest e, length-drop) (omega arith)
-
--- an integer takes a byte or more
-is_shorter : (bytes : List ℕ) (value : ℕ) (rest : List ℕ) → lenenc bytes ≡ Integer value rest → length rest < length bytes
-unfolding lenenc
-is_shorter [] value rest e = absurd cc
-is_shorter (b ∷ bs) value rest e = lt-of_le (by (nat_lt b 0xFB) (b == 0xFC) (b == 0xFD) (b == 0xFE) e)
-  where
-    lt-of_le : {m n : ℕ} → m ≤ n → m < suc n
-    lt-of_le h = omega arith
-
-    by : (one two three eight : Bool) → cond one (Integer b bs) (cond two (sized 2 bs) (cond three (sized 3 bs) (cond eight (sized 8 bs) NoInteger))) ≡ Integer value rest → length rest ≤ length bs
-    by true two three eight e = rw (← integer_is b bs value rest e) (omega arith)
-    by false true three eight e = sized_shorter 2 bs value rest e
-    by false false true eight e = sized_shorter 3 bs value rest e
-    by false false false true e = sized_shorter 8 bs value rest e
-    by false false false false e = absurd cc
-
-text_none : text_front [] ≡ None
-unfolding text_front lenenc
-text_none = refl
-
--- the place behind an integer
-behind_integer : (bytes : List ℕ) (found : ℕ × ℕ) → integer_at bytes 0 ≡ Some found → (0 < found.1) × (0 < length bytes)
-behind_integer bytes found e = by (lenenc bytes) refl e
-  where
-    place_is : (a b : ℕ × ℕ) → Some a ≡ Some b → a ≡ b
-    place_is a b e = cc
-
-    by : (read : Lenenc) → lenenc bytes ≡ read → option_map (λ (found : ℕ × List ℕ). (found.0, length bytes - length found.1)) (integer read) ≡ Some found → (0 < found.1) × (0 < length bytes)
-    by (Integer value rest) f e =
-        let shorter = is_shorter bytes value rest f in
-        let place = ap (λ (p : ℕ × ℕ). p.1) (place_is (value, length bytes - length rest) found e) in
-        (omega arith, omega arith)
-    by Cut f e = absurd cc
-    by NoInteger f e = absurd cc
-
-pub text_shorter : (bytes text rest : List ℕ) → text_front bytes ≡ Some (text, rest) → length rest < length bytes
-unfolding text_front
-text_shorter bytes text rest e = by (integer_at bytes 0) refl e
-  where
-    text_is : (a b : List ℕ × List ℕ) → Some a ≡ Some b → a.1 ≡ b.1
-    text_is a b e = let same : a ≡ b = cc in ap (λ (p : List ℕ × List ℕ). p.1) same
-
-    whole : (size : ℕ × ℕ) → integer_at bytes 0 ≡ Some size → (test : Bool) → cond {A = Option (List ℕ × List ℕ)} test None (Some (take size.0 (drop size.1 bytes), drop size.0 (drop size.1 bytes))) ≡ Some (text, rest) → length rest < length bytes
-    whole size f true e = absurd cc
-    whole size f false e =
-        let place = behind_integer bytes size f in
-        rw (← text_is (take size.0 (drop size.1 bytes), drop size.0 (drop size.1 bytes)) (text, rest) e, length-drop, length-drop) (omega arith)
-
-    by : (o : Option (ℕ × ℕ)) → integer_at bytes 0 ≡ o → option_and_then (λ (size : ℕ × ℕ). cond {A = Option (List ℕ × List ℕ)} (nat_lt (length bytes - size.1) size.0) None (Some (take size.0 (drop size.1 bytes), drop size.0 (drop size.1 bytes)))) o ≡ Some (text, rest) → length rest < length bytes
-    by None f e = absurd cc
-    by (Some size) f e = whole size f (nat_lt (length bytes - size.1) size.0) e
+use Rattle.rws_track.specs.State.{Variable, AreVariables, EntryShows, Shows, gtid_in, later, last_gtid}
 
 -- ---- the last of two lists
 
@@ -92,18 +28,15 @@ last_gtid-append domain (x ∷ xs) ys = ap (later (gtid_in domain x)) (last_gtid
 
 -- ---- variables
 
-same_text : (a b c d : List ℕ) (bytes : List ℕ) → text_front bytes ≡ Some (a, b) → text_front bytes ≡ Some (c, d) → (a ≡ c) × (b ≡ d)
-same_text a b c d bytes e f = let both = pair_is (a, b) (c, d) (sym e ∙ f) in (ap (λ (p : List ℕ × List ℕ). p.0) both, ap (λ (p : List ℕ × List ℕ). p.1) both)
-  where
-    pair_is : (p q : List ℕ × List ℕ) → Some p ≡ Some q → p ≡ q
-    pair_is p q e = cc
+same_text : (a b c d : List ℕ) (bytes : List ℕ) → text_at bytes ≡ Ok (a, b) → text_at bytes ≡ Ok (c, d) → (a ≡ c) × (b ≡ d)
+same_text a b c d bytes e f = let both = ok_is (a, b) (c, d) (sym e ∙ f) in (ap (λ (p : List ℕ × List ℕ). p.0) both, ap (λ (p : List ℕ × List ℕ). p.1) both)
 
-no_text : (bytes a b : List ℕ) → text_front bytes ≡ None → text_front bytes ≡ Some (a, b) → ⊥
+no_text : (bytes a b : List ℕ) {fault : MsgFault} → text_at bytes ≡ Err fault → text_at bytes ≡ Ok (a, b) → ⊥
 no_text bytes a b e f = absurd cc
 
 -- the variables behind the first
-variables_behind : {bytes : List ℕ} {shown : List Variable} → AreVariables bytes shown → (name behind value rest : List ℕ) → text_front bytes ≡ Some (name, behind) → text_front behind ≡ Some (value, rest) → (others : List Variable) × AreVariables rest others
-variables_behind state.none name behind value rest e f = absurd (no_text [] name behind text_none e)
+variables_behind : {bytes : List ℕ} {shown : List Variable} → AreVariables bytes shown → (name behind value rest : List ℕ) → text_at bytes ≡ Ok (name, behind) → text_at behind ≡ Ok (value, rest) → (others : List Variable) × AreVariables rest others
+variables_behind state.none name behind value rest e f = absurd (no_text [] name behind text_at_nothing e)
 variables_behind (state.more bytes name behind value rest {variables = others} g h are) name' behind' value' rest' e f =
     let first = same_text name behind name' behind' bytes g e in
     let second = same_text value rest value' rest' behind h (rw first.1 f) in
@@ -118,7 +51,7 @@ pub all_variables_left : (domain : ℕ) (found : Option Gtid) (whole : List ℕ)
 all_variables_left domain found whole = record { on = λ shown are. (shown, are, refl); back = λ all are. (all, are) }
 
 module _ (domain : ℕ) (found : Option Gtid) (whole bytes : List ℕ) (last : Option Gtid) (left : VariablesLeft domain found whole bytes last) where
-  pub one_variable : (name behind value rest : List ℕ) → text_front bytes ≡ Some (name, behind) → text_front behind ≡ Some (value, rest) → VariablesLeft domain found whole rest (later last (gtid_in domain (name, value)))
+  pub one_variable : (name behind value rest : List ℕ) → text_at bytes ≡ Ok (name, behind) → text_at behind ≡ Ok (value, rest) → VariablesLeft domain found whole rest (later last (gtid_in domain (name, value)))
   one_variable name behind value rest e f = record {
     on = λ shown are.
         let one = left.on ((name, value) ∷ shown) (state.more bytes name behind value rest e f are) in
@@ -126,19 +59,19 @@ module _ (domain : ℕ) (found : Option Gtid) (whole bytes : List ℕ) (last : O
     back = λ all are. let shown = left.back all are in variables_behind shown.1 name behind value rest e f;
   }
 
-  no_variables : {bytes : List ℕ} {shown : List Variable} → AreVariables bytes shown → 0 < length bytes → text_front bytes ≡ None → ⊥
+  no_variables : {bytes : List ℕ} {shown : List Variable} {fault : MsgFault} → AreVariables bytes shown → 0 < length bytes → text_at bytes ≡ Err fault → ⊥
   no_variables state.none some_ e = absurd (omega arith)
   no_variables (state.more bytes name behind value rest g h are) some_ e = no_text bytes name behind e g
 
-  pub name_broken : 0 < length bytes → text_front bytes ≡ None → (all : List Variable) → AreVariables whole all → ⊥
+  pub name_broken : {fault : MsgFault} → 0 < length bytes → text_at bytes ≡ Err fault → (all : List Variable) → AreVariables whole all → ⊥
   name_broken some_ e all are = no_variables (left.back all are).1 some_ e
 
-  no_value : {bytes : List ℕ} {shown : List Variable} → AreVariables bytes shown → 0 < length bytes → (name behind : List ℕ) → text_front bytes ≡ Some (name, behind) → text_front behind ≡ None → ⊥
+  no_value : {bytes : List ℕ} {shown : List Variable} {fault : MsgFault} → AreVariables bytes shown → 0 < length bytes → (name behind : List ℕ) → text_at bytes ≡ Ok (name, behind) → text_at behind ≡ Err fault → ⊥
   no_value state.none some_ name behind e f = absurd (omega arith)
   no_value (state.more bytes name' behind' value rest g h are) some_ name behind e f =
       let first = same_text name' behind' name behind bytes g e in no_text behind value rest f (rw (← first.1) h)
 
-  pub value_broken : 0 < length bytes → (name behind : List ℕ) → text_front bytes ≡ Some (name, behind) → text_front behind ≡ None → (all : List Variable) → AreVariables whole all → ⊥
+  pub value_broken : {fault : MsgFault} → 0 < length bytes → (name behind : List ℕ) → text_at bytes ≡ Ok (name, behind) → text_at behind ≡ Err fault → (all : List Variable) → AreVariables whole all → ⊥
   value_broken some_ name behind e f all are = no_value (left.back all are).1 some_ name behind e f
 
   pub variables_end : length bytes ≡ 0 → (all : List Variable) × AreVariables whole all × (last ≡ later found (last_gtid domain all))
@@ -151,7 +84,7 @@ module _ (domain : ℕ) (found : Option Gtid) (whole bytes : List ℕ) (last : O
 -- ---- entries
 
 -- the entries behind the first
-entries_behind : {bytes : List ℕ} {shown : List Variable} → Shows bytes shown → (kind : ℕ) (body inner rest : List ℕ) → bytes ≡ kind ∷ body → text_front body ≡ Some (inner, rest) → (first others : List Variable) × EntryShows kind inner first × Shows rest others
+entries_behind : {bytes : List ℕ} {shown : List Variable} → Shows bytes shown → (kind : ℕ) (body inner rest : List ℕ) → bytes ≡ kind ∷ body → text_at body ≡ Ok (inner, rest) → (first others : List Variable) × EntryShows kind inner first × Shows rest others
 entries_behind state.none kind body inner rest same e = absurd cc
 entries_behind (state.entry kind' body' inner' rest' first {others} g entry are) kind body inner rest same e =
     let kinds : kind' ≡ kind = cc in
@@ -168,7 +101,7 @@ pub all_entries_left : (domain : ℕ) (whole : List ℕ) → EntriesLeft domain 
 all_entries_left domain whole = record { on = λ shown are. (shown, are, none_first (last_gtid domain shown)); back = λ all are. (all, are) }
 
 module _ (domain : ℕ) (whole bytes : List ℕ) (last : Option Gtid) (left : EntriesLeft domain whole bytes last) (kind : ℕ) (body : List ℕ) (same : bytes ≡ kind ∷ body) where
-  pub one_entry : (inner rest : List ℕ) (first : List Variable) → text_front body ≡ Some (inner, rest) → EntryShows kind inner first → EntriesLeft domain whole rest (later last (last_gtid domain first))
+  pub one_entry : (inner rest : List ℕ) (first : List Variable) → text_at body ≡ Ok (inner, rest) → EntryShows kind inner first → EntriesLeft domain whole rest (later last (last_gtid domain first))
   one_entry inner rest first e entry = record {
     on = λ shown are.
         let one = left.on (first ++ shown) (subst (λ (b : List ℕ). Shows b (first ++ shown)) (sym same) (state.entry kind body inner rest first e entry are)) in
@@ -176,15 +109,15 @@ module _ (domain : ℕ) (whole bytes : List ℕ) (last : Option Gtid) (left : En
     back = λ all are. let shown = left.back all are in let behind = entries_behind shown.1 kind body inner rest same e in (behind.1, behind.3);
   }
 
-  no_entry : {bytes : List ℕ} {shown : List Variable} → Shows bytes shown → bytes ≡ kind ∷ body → text_front body ≡ None → ⊥
+  no_entry : {bytes : List ℕ} {shown : List Variable} {fault : MsgFault} → Shows bytes shown → bytes ≡ kind ∷ body → text_at body ≡ Err fault → ⊥
   no_entry state.none same e = absurd cc
   no_entry (state.entry kind' body' inner' rest' first g entry are) same e =
       let bodies : body' ≡ body = cc in no_text body inner' rest' e (rw (← bodies) g)
 
-  pub entry_broken : text_front body ≡ None → (all : List Variable) → Shows whole all → ⊥
+  pub entry_broken : {fault : MsgFault} → text_at body ≡ Err fault → (all : List Variable) → Shows whole all → ⊥
   entry_broken e all are = no_entry (left.back all are).1 same e
 
-  pub inner_broken : (inner rest : List ℕ) → text_front body ≡ Some (inner, rest) → ((first : List Variable) → EntryShows kind inner first → ⊥) → (all : List Variable) → Shows whole all → ⊥
+  pub inner_broken : (inner rest : List ℕ) → text_at body ≡ Ok (inner, rest) → ((first : List Variable) → EntryShows kind inner first → ⊥) → (all : List Variable) → Shows whole all → ⊥
   inner_broken inner rest e broken all are =
       let behind = entries_behind (left.back all are).1 kind body inner rest same e in broken behind.0 behind.2
 
@@ -198,11 +131,11 @@ variables_once state.none b are = none_only are refl
   where
     none_only : {bytes : List ℕ} {b : List Variable} → AreVariables bytes b → bytes ≡ [] → [] ≡ b
     none_only state.none same = refl
-    none_only (state.more bytes name behind value rest g h are) same = absurd (no_text bytes name behind (ap text_front same ∙ text_none) g)
+    none_only (state.more bytes name behind value rest g h are) same = absurd (no_text bytes name behind (ap text_at same ∙ text_at_nothing) g)
 variables_once (state.more bytes name behind value rest {variables = others} g h others_are) b are = more_only are g h (λ c these. variables_once others_are c these)
   where
-    more_only : {whole : List ℕ} {b : List Variable} → AreVariables whole b → text_front whole ≡ Some (name, behind) → text_front behind ≡ Some (value, rest) → ((c : List Variable) → AreVariables rest c → others ≡ c) → (name, value) ∷ others ≡ b
-    more_only state.none g h same = absurd (no_text [] name behind text_none g)
+    more_only : {whole : List ℕ} {b : List Variable} → AreVariables whole b → text_at whole ≡ Ok (name, behind) → text_at behind ≡ Ok (value, rest) → ((c : List Variable) → AreVariables rest c → others ≡ c) → (name, value) ∷ others ≡ b
+    more_only state.none g h same = absurd (no_text [] name behind text_at_nothing g)
     more_only (state.more whole name' behind' value' rest' {variables = others'} g' h' are') g h same =
         let first = same_text name behind name' behind' whole g g' in
         let second = same_text value rest value' rest' behind h (rw first.1 h') in

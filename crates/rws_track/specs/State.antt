@@ -1,18 +1,11 @@
 -- The session state that an OK reports ("OK_Packet", session state information): entries of a type byte and
 -- length-encoded data. The data of type 0 is system variables, each a length-encoded name and value.
-use Rattle.std.specs.Prelude.{◌≡◌, ◌==◌, ℕ, zero, suc, ◌+◌, ◌-◌, ◌&&◌, List, [], ◌∷◌, ◌++◌, length, take, drop, Option, Some, None, Result, Ok, Err, option_and_then, nat_lt, codes, if◌then◌else◌}
+use Rattle.std.specs.Prelude.{◌≡◌, ◌==◌, ℕ, zero, suc, List, [], ◌∷◌, ◌++◌, Option, Some, None, Ok, option_and_then, codes, nat_eq, if◌then◌else◌}
 use Rattle.std.specs.Result.{result_ok}
 use Rattle.std.specs.Cmp.Lexicographic.{pointwise}
-use Rattle.std.specs.Prelude.{nat_eq}
-use Rattle.rws_wire.specs.Lenenc.{integer_at}
+use Rattle.rws_msgs.specs.Fields.{text_at}
 use Rattle.rws_gtid.specs.declared.Gtid.{Gtid}
 use Rattle.rws_gtid.specs.Reading.{gtid_at}
-
--- the length-encoded text at the front, and the bytes behind it
-unfoldable pub text_front : List ℕ → Option (List ℕ × List ℕ)
-text_front bytes = option_and_then (λ size.
-    if nat_lt (length bytes - size.1) size.0 then None
-    else Some (take size.0 (drop size.1 bytes), drop size.0 (drop size.1 bytes))) (integer_at bytes 0)
 
 -- a system variable: its name and its value
 abbrev pub Variable : Type 0
@@ -21,7 +14,7 @@ Variable = List ℕ × List ℕ
 -- the data of an entry is these variables
 pub data AreVariables : List ℕ → List Variable → Type 0 where
   none : AreVariables [] []
-  more : (bytes name behind value rest : List ℕ) {variables : List Variable} → text_front bytes ≡ Some (name, behind) → text_front behind ≡ Some (value, rest) → AreVariables rest variables → AreVariables bytes ((name, value) ∷ variables)
+  more : (bytes name behind value rest : List ℕ) {variables : List Variable} → text_at bytes ≡ Ok (name, behind) → text_at behind ≡ Ok (value, rest) → AreVariables rest variables → AreVariables bytes ((name, value) ∷ variables)
 
 -- an entry of this type and with this data shows these variables; one of another type than 0 shows none
 abbrev pub EntryShows : ℕ → List ℕ → List Variable → Type 0
@@ -31,7 +24,7 @@ EntryShows (suc _) bytes shown = shown ≡ []
 -- a state shows these variables, in the order of its entries
 pub data Shows : List ℕ → List Variable → Type 0 where
   none : Shows [] []
-  entry : (kind : ℕ) (bytes inner rest : List ℕ) (shown : List Variable) {others : List Variable} → text_front bytes ≡ Some (inner, rest) → EntryShows kind inner shown → Shows rest others → Shows (kind ∷ bytes) (shown ++ others)
+  entry : (kind : ℕ) (bytes inner rest : List ℕ) (shown : List Variable) {others : List Variable} → text_at bytes ≡ Ok (inner, rest) → EntryShows kind inner shown → Shows rest others → Shows (kind ∷ bytes) (shown ++ others)
 
 -- the GTID of the domain that a variable names
 abbrev pub gtid_in : ℕ → Variable → Option Gtid
@@ -46,8 +39,3 @@ later earlier (Some gtid) = Some gtid
 abbrev pub last_gtid : ℕ → List Variable → Option Gtid
 last_gtid domain [] = None
 last_gtid domain (one ∷ others) = later (gtid_in domain one) (last_gtid domain others)
-
--- What a reader found, seen by view, or that there is nothing.
-abbrev pub Finds : {X Y E : Type 0} → (X → Y) → Result X E → Option Y → Type 0
-Finds view (Ok x) found = found ≡ Some (view x)
-Finds view (Err _) found = found ≡ None

@@ -1,26 +1,19 @@
 //! Reads the system variables in a session's state.
 
-ghost use Rattle.std.specs.Prelude.{◌≡◌, List, ℕ, length, IfOk, OnErr, Result, Ok, Err};
-ghost use Rattle.rws_track.specs.State.{Variable, AreVariables, EntryShows, Shows, text_front, gtid_in, later, last_gtid, Finds};
+ghost use Rattle.std.specs.Prelude.{◌≡◌, List, ℕ, IfOk, OnErr};
+ghost use Rattle.rws_track.specs.State.{Variable, AreVariables, EntryShows, Shows, gtid_in, later, last_gtid};
 
 use rws_gtid::{Gtid, parse};
-use rws_wire::read_lenenc;
+use rws_msgs::{MsgFault, split_text};
 
 /// An entry or a variable breaks off.
 #[derive(Drop)]
 pub struct BrokenOff;
 
-/// The length-encoded text at the front, and the bytes behind it.
-#[tactic(auto, unfolding(crate::specs::State::text_front))]
-fn text(bytes: &[u8]) -> Result<(&[u8], &[u8]), BrokenOff>
-    ensures { Finds (λ found. (found.0.now, found.1.now)) result (text_front bytes.now) }
-{
-    let (size, start) = read_lenenc(bytes, 0).ok_or(BrokenOff)?;
-    let rest = &bytes[start..];
-    if (rest.len() as u64) < size {
-        return Err(BrokenOff);
+impl From<MsgFault> for BrokenOff {
+    fn from(_fault: MsgFault) -> BrokenOff {
+        BrokenOff
     }
-    Ok(rest.split_at(size as usize))
 }
 
 /// The GTID of the domain that the variable names.
@@ -59,8 +52,8 @@ fn last_in_variables(
     let mut last = found;
     let mut rest = bytes;
     while !rest.is_empty() {
-        let (name, behind) = text(rest)?;
-        let (value, others) = text(behind)?;
+        let (name, behind) = split_text(rest)?;
+        let (value, others) = split_text(behind)?;
         last = later_of(last, gtid_of_variable(name, value, domain));
         rest = others;
     }
@@ -96,7 +89,7 @@ pub fn last_in_state(state: &[u8], domain: u32) -> Result<Option<Gtid>, BrokenOf
     let mut last = None;
     let mut rest = state;
     while let [kind, body @ ..] = rest {
-        let (inner, others) = text(body)?;
+        let (inner, others) = split_text(body)?;
         last = last_in_entry(*kind, inner, domain, last)?;
         rest = others;
     }
