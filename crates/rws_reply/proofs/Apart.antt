@@ -1,6 +1,6 @@
 -- No payload is two things: they differ in their first byte, or in their length.
-use Rattle.std.proofs.Common.{◌≡◌, ◌==◌, ℕ, Bool, true, false, cond, List, [], ◌∷◌, length, refl, sym, ap, ◌∙◌, arith, Option, Some, None, is_some}
-use Rattle.std.specs.Prelude.{◌&&◌, ◌+◌, ◌≤◌, take, drop, nat_lt, Result, Ok, Err}
+use Rattle.std.proofs.Common.{◌≡◌, ◌==◌, ℕ, Bool, true, false, cond, List, [], ◌∷◌, length, refl, sym, ap, ◌∙◌, arith, Option, Some, None}
+use Rattle.std.specs.Prelude.{◌+◌, ◌≤◌, take, drop, nat_lt, Result, Ok, Err}
 use Rattle.std.specs.Option.{option_map}
 use Rattle.std.specs.Result.{result_ok}
 use Rattle.std.proofs.lemmas.List.{length-drop}
@@ -8,30 +8,24 @@ use Rattle.rws_wire.specs.Numbers.{number_of}
 use Rattle.rws_msgs.specs.declared.fault.MsgFault.{MsgFault}
 use Rattle.rws_msgs.specs.declared.fault.MsgFault.TheVariants.{Short, BadTag}
 use Rattle.rws_msgs.specs.Reading.{◌>>=◌}
-use Rattle.rws_msgs.specs.Fields.{fixed_at, number_at, ended}
+use Rattle.rws_msgs.specs.Fields.{fixed_at, number_at, ended, lenenc_at, text_at}
 use Rattle.rws_msgs.specs.OkLayout.{ok_at}
 use Rattle.rws_msgs.specs.ErrLayout.{err_at}
 use Rattle.rws_msgs.specs.EofLayout.{eof_at}
 use Rattle.rws_msgs.specs.PrepareOkLayout.{prepare_ok_at}
+use Rattle.rws_msgs.proofs.FieldLemmas.{bind_ok, ok_is}
 use Rattle.std.proofs.lemmas.Bool.Decides.{nat_tests}
 use Rattle.rws_wire.specs.Lenenc.{lenenc}
-use Rattle.rws_reply.specs.Payloads.{begins_with, behind_text, ok_status, err_code, eof_status, column_count, definition_end, is_row, prepared_counts}
+use Rattle.rws_reply.specs.Payloads.{ok_status, err_code, eof_status, column_count, is_definition, is_row, prepared_counts}
 
 -- a payload with this first byte
 abbrev pub Begins_by : ℕ → List ℕ → Type 0
 Begins_by byte p = (rest : List ℕ) × (p ≡ byte ∷ rest)
 
-abbrev done : {A : Type 0} → A → Result A MsgFault
-done x = Ok x
-
 -- what a layout read, where something of it was asked for
 read_is : {A B : Type 0} (r : Result A MsgFault) (f : A → B) (y : B) → option_map f (result_ok r) ≡ Some y → (x : A) × (r ≡ Ok x)
 read_is (Ok x) f y e = (x, refl)
 read_is (Err fault) f y e = absurd cc
-
-bind_ok : {A B : Type 0} (r : Result A MsgFault) (f : A → Result B MsgFault) (y : B) → (r >>= f) ≡ Ok y → (x : A) × (r ≡ Ok x) × (f x ≡ Ok y)
-bind_ok (Ok x) f y e = (x, refl, e)
-bind_ok (Err fault) f y e = absurd cc
 
 -- a message that begins with a fixed byte
 fixed_first : {A : Type 0} (byte : ℕ) (p : List ℕ) (f : List ℕ → Result A MsgFault) (x : A) → (fixed_at byte p >>= f) ≡ Ok x → (rest : List ℕ) × (p ≡ byte ∷ rest) × (f rest ≡ Ok x)
@@ -60,14 +54,11 @@ number_length : (size : ℕ) (bytes : List ℕ) (x : ℕ × List ℕ) → number
 unfolding number_at
 number_length size bytes x e = by (nat_lt (length bytes) size) refl e
   where
-    is : (a b : ℕ × List ℕ) → done a ≡ done b → a ≡ b
-    is a b e = cc
-
     by : (test : Bool) → nat_lt (length bytes) size ≡ test → cond {A = Result (ℕ × List ℕ) MsgFault} test (Err Short) (Ok (number_of (take size bytes), drop size bytes)) ≡ Ok x → length bytes ≡ size + length x.1
     by true g e = absurd cc
     by false g e =
         let enough : size ≤ length bytes = grind (arith, nat_tests) in
-        let rest = ap (λ (p : ℕ × List ℕ). length p.1) (is (number_of (take size bytes), drop size bytes) x e) in
+        let rest = ap (λ (p : ℕ × List ℕ). length p.1) (ok_is (number_of (take size bytes), drop size bytes) x e) in
         omega (arith, length-drop size bytes)
 
 ended_length : {A : Type 0} (value x : A) (bytes : List ℕ) → ended value bytes ≡ Ok x → length bytes ≡ 0
@@ -92,22 +83,18 @@ prepared_begins p counts e =
 
 no_columns_0 : (bs : List ℕ) → column_count (0x00 ∷ bs) ≡ None
 unfolding column_count lenenc
-no_columns_0 bs = refused_by _
-  where
-    refused_by : (test : Bool) → cond {A = Option ℕ} (test && false) (Some 0) None ≡ None
-    refused_by true = refl
-    refused_by false = refl
+no_columns_0 bs = refl
 
 no_columns_255 : (bs : List ℕ) → column_count (0xFF ∷ bs) ≡ None
 unfolding column_count lenenc
 no_columns_255 bs = refl
 
-no_definition_255 : (bs : List ℕ) → definition_end (0xFF ∷ bs) ≡ None
-unfolding definition_end behind_text lenenc
+no_definition_255 : (bs : List ℕ) → is_definition (0xFF ∷ bs) ≡ false
+unfolding is_definition text_at lenenc_at lenenc
 no_definition_255 bs = refl
 
-no_definition_254 : (bs : List ℕ) → length bs ≡ 4 → definition_end (0xFE ∷ bs) ≡ None
-unfolding definition_end behind_text lenenc
+no_definition_254 : (bs : List ℕ) → length bs ≡ 4 → is_definition (0xFE ∷ bs) ≡ false
+unfolding is_definition text_at lenenc_at lenenc
 no_definition_254 bs e = rw e refl
 
 no_row_254 : (bs : List ℕ) → length bs ≡ 4 → is_row (0xFE ∷ bs) ≡ false
@@ -144,21 +131,18 @@ no_ok_in_count p count o = none_unless _ (λ s e. let first = ok_begins p s e in
 pub no_err_in_count : (p : List ℕ) (count : ℕ) → column_count p ≡ Some count → err_code p ≡ None
 no_err_in_count p count o = none_unless _ (λ code e. let first = err_begins p code e in none_is_some _ count (no_columns_255 first.0) (ap column_count (sym first.1) ∙ o))
 
-no_some : {A : Type 0} (o : Option A) → o ≡ None → is_some o ≡ true → ⊥
-no_some o e f = absurd cc
+both : (b : Bool) → b ≡ false → b ≡ true → ⊥
+both b e f = absurd cc
 
-pub no_err_in_definition : (p : List ℕ) → is_some (definition_end p) ≡ true → err_code p ≡ None
-no_err_in_definition p o = none_unless _ (λ code e. let first = err_begins p code e in no_some _ (ap definition_end first.1 ∙ no_definition_255 first.0) o)
+pub no_err_in_definition : (p : List ℕ) → is_definition p ≡ true → err_code p ≡ None
+no_err_in_definition p o = none_unless _ (λ code e. let first = err_begins p code e in both _ (ap is_definition first.1 ∙ no_definition_255 first.0) o)
 
-pub no_eof_in_definition : (p : List ℕ) → is_some (definition_end p) ≡ true → eof_status p ≡ None
-no_eof_in_definition p o = none_unless _ (λ s e. let first = eof_begins p s e in no_some _ (ap definition_end first.1 ∙ no_definition_254 first.0 first.2) o)
+pub no_eof_in_definition : (p : List ℕ) → is_definition p ≡ true → eof_status p ≡ None
+no_eof_in_definition p o = none_unless _ (λ s e. let first = eof_begins p s e in both _ (ap is_definition first.1 ∙ no_definition_254 first.0 first.2) o)
 
 no_row_255 : (bs : List ℕ) → is_row (0xFF ∷ bs) ≡ false
 unfolding is_row
 no_row_255 bs = refl
-
-both : (b : Bool) → b ≡ false → b ≡ true → ⊥
-both b e f = absurd cc
 
 pub no_err_in_row : (p : List ℕ) → is_row p ≡ true → err_code p ≡ None
 no_err_in_row p o = none_unless _ (λ code e. let first = err_begins p code e in both _ (ap is_row first.1 ∙ no_row_255 first.0) o)

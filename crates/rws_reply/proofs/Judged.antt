@@ -1,7 +1,7 @@
 -- What an answer of the tracker says: whole replies end, and each beginning of one can be completed.
-use Rattle.std.proofs.Common.{◌≡◌, ◌==◌, ℕ, zero, suc, Bool, true, false, List, [], ◌∷◌, ◌++◌, length, refl, sym, ap, ◌∙◌, subst, Some, is_some}
+use Rattle.std.proofs.Common.{◌≡◌, ◌==◌, ℕ, zero, suc, Bool, true, false, List, [], ◌∷◌, ◌++◌, length, refl, sym, ap, ◌∙◌, subst, Some}
 use Rattle.rws_wire.specs.Lenenc.{lenenc}
-use Rattle.rws_msgs.specs.Fields.{fixed_at, number_at, bytes_at, ended}
+use Rattle.rws_msgs.specs.Fields.{fixed_at, number_at, bytes_at, ended, lenenc_at, text_at}
 use Rattle.rws_msgs.specs.OkLayout.{ok_at}
 use Rattle.rws_msgs.specs.ErrLayout.{err_at}
 use Rattle.rws_msgs.specs.EofLayout.{eof_at}
@@ -11,7 +11,7 @@ use Rattle.rws_reply.specs.declared.awaits.Awaits.{Awaits}
 use Rattle.rws_reply.specs.declared.awaits.Awaits.TheVariants.{Simple, Query, Definitions, Rows, Prepare, Parameters, Columns, FieldList, Fields}
 use Rattle.rws_reply.specs.declared.awaits.Step.{Step}
 use Rattle.rws_reply.specs.declared.awaits.Step.TheVariants.{Goes, Done, Failed}
-use Rattle.rws_reply.specs.Payloads.{behind_text, ok_status, err_code, eof_status, prepared_counts, definition_end}
+use Rattle.rws_reply.specs.Payloads.{ok_status, err_code, eof_status, prepared_counts, is_definition}
 use Rattle.rws_reply.specs.Replies.{Payload, Outcome, Accepted, Refused, AreDefinitions, IsReply, Begins}
 use Rattle.rws_reply.specs.Tracking.{next, Verdict, Whole, Begun, Neither, proceed, run, first, defined, to_columns, Tracks}
 use Rattle.rws_reply.proofs.Runs.{run-append, run_past_whole, run_past_neither}
@@ -33,8 +33,8 @@ eof_ends : eof_status an_eof ≡ Some 2
 unfolding eof_status eof_at fixed_at number_at ended an_eof
 eof_ends = refl
 
-defines : is_some (definition_end a_definition) ≡ true
-unfolding definition_end behind_text lenenc a_definition
+defines : is_definition a_definition ≡ true
+unfolding is_definition text_at lenenc_at lenenc bytes_at a_definition
 defines = refl
 
 definitions_of : ℕ → List Payload

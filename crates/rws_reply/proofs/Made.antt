@@ -1,5 +1,5 @@
 -- What takes a tracker to its end is a whole reply of the grammar: each state goes on from what came before it.
-use Rattle.std.proofs.Common.{◌≡◌, ◌==◌, ℕ, ◌+◌, ◌-◌, ◌<◌, Bool, true, false, cond, List, [], ◌∷◌, ◌++◌, length, refl, sym, ap, ◌∙◌, subst, append_assoc, Option, Some, None, is_some, arith, length-append, zero-add, append-nil}
+use Rattle.std.proofs.Common.{◌≡◌, ◌==◌, ℕ, ◌+◌, ◌-◌, ◌<◌, Bool, true, false, cond, List, [], ◌∷◌, ◌++◌, length, refl, sym, ap, ◌∙◌, subst, append_assoc, Option, Some, None, arith, length-append, zero-add, append-nil}
 use Rattle.std.specs.List.{AllByRecursion}
 use Rattle.std.proofs.lemmas.Bool.Decides.{nat_tests}
 use Rattle.rws_reply.specs.declared.kind.Kind.{Kind}
@@ -7,7 +7,7 @@ use Rattle.rws_reply.specs.declared.kind.Kind.TheVariants as kinds
 use Rattle.rws_reply.specs.declared.awaits.Awaits.{Awaits}
 use Rattle.rws_reply.specs.declared.awaits.Awaits.TheVariants.{Simple, Query, Definitions, Rows, Prepare, Parameters, Columns, FieldList, Fields}
 use Rattle.rws_reply.specs.declared.awaits.Step.TheVariants.{Goes, Done, Failed, Wrong}
-use Rattle.rws_reply.specs.Payloads.{has_more_results, ok_status, err_code, eof_status, column_count, definition_end, is_row, prepared_counts}
+use Rattle.rws_reply.specs.Payloads.{has_more_results, ok_status, err_code, eof_status, column_count, is_definition, is_row, prepared_counts}
 use Rattle.rws_reply.specs.Replies as replies
 use Rattle.rws_reply.specs.Replies.{Payload, Outcome, Accepted, Refused, AreDefinitions, AreRows, IsHead, head, IsSimple, IsQuery, IsPart, IsPrepare, IsFieldList, IsReply}
 use Rattle.rws_reply.specs.Tracking.{next, given, after_result, Verdict, Whole, Begun, Neither, ends, proceed, run, defined, to_columns, to_parameters}
@@ -81,7 +81,7 @@ module _ (p : Payload) (ps : List Payload) (out : Outcome) (others : (s : Awaits
   rows_made None f None g true i h front rs front_is all = rw (← append_assoc rs (p ∷ []) ps) (others Rows h front (rs ++ p ∷ []) front_is (all_push _ rs p all i))
   rows_made None f None g false i h front rs front_is all = absurd cc
 
-  definitions_made : (left : ℕ) (test : Bool) → (left == 0) ≡ test → (e : Option ℕ) → eof_status p ≡ e → (d : Bool) → is_some (definition_end p) ≡ d → proceed (cond test (given e (λ _. Goes Rows) Wrong) (cond d (Goes (Definitions (left - 1))) Wrong)) ps (run ps) ≡ Whole out → (count : Payload) (before : List Payload) → column_count count ≡ Some (length before + left) → AreDefinitions before → IsQuery (count ∷ (before ++ (p ∷ ps))) out
+  definitions_made : (left : ℕ) (test : Bool) → (left == 0) ≡ test → (e : Option ℕ) → eof_status p ≡ e → (d : Bool) → is_definition p ≡ d → proceed (cond test (given e (λ _. Goes Rows) Wrong) (cond d (Goes (Definitions (left - 1))) Wrong)) ps (run ps) ≡ Whole out → (count : Payload) (before : List Payload) → column_count count ≡ Some (length before + left) → AreDefinitions before → IsQuery (count ∷ (before ++ (p ∷ ps))) out
   definitions_made left true z (Some status) f d i h count before counted all =
       let none = is_zero left z in
       rw (← append_assoc before (p ∷ []) ps) (others Rows h (count ∷ (before ++ p ∷ [])) [] (head count before p (counted ∙ ap (λ (n : ℕ). Some n) (omega arith)) all f) tt)
@@ -90,7 +90,7 @@ module _ (p : Payload) (ps : List Payload) (out : Outcome) (others : (s : Awaits
       rw (← append_assoc before (p ∷ []) ps) (others (Definitions (left - 1)) h count (before ++ p ∷ []) (counted ∙ ap (λ (n : ℕ). Some n) (one_more before p left (is_more left z))) (all_push _ before p all i))
   definitions_made left false z e f false i h count before counted all = absurd cc
 
-  columns_made : (left : ℕ) (test : Bool) → (left == 0) ≡ test → (e : Option ℕ) → eof_status p ≡ e → (d : Bool) → is_some (definition_end p) ≡ d → proceed (cond test (given e (λ status. Done status) Wrong) (cond d (Goes (Columns (left - 1))) Wrong)) ps (run ps) ≡ Whole out → (first : Payload) (parameters before : List Payload) (counts : ℕ × ℕ) (between : ℕ) → prepared_counts first ≡ Some counts → IsPart counts.1 parameters 2 between → counts.0 ≡ length before + left → 0 < counts.0 → AreDefinitions before → IsPrepare (first ∷ (parameters ++ (before ++ (p ∷ ps)))) out
+  columns_made : (left : ℕ) (test : Bool) → (left == 0) ≡ test → (e : Option ℕ) → eof_status p ≡ e → (d : Bool) → is_definition p ≡ d → proceed (cond test (given e (λ status. Done status) Wrong) (cond d (Goes (Columns (left - 1))) Wrong)) ps (run ps) ≡ Whole out → (first : Payload) (parameters before : List Payload) (counts : ℕ × ℕ) (between : ℕ) → prepared_counts first ≡ Some counts → IsPart counts.1 parameters 2 between → counts.0 ≡ length before + left → 0 < counts.0 → AreDefinitions before → IsPrepare (first ∷ (parameters ++ (before ++ (p ∷ ps)))) out
   columns_made left true z (Some status) f d i h first parameters before counts between prepared fits same more all =
       let none = is_zero left z in
       at_end (λ ps out. IsPrepare (first ∷ (parameters ++ (before ++ (p ∷ ps)))) out) (Accepted status) ps out (replies.prepared first parameters (before ++ p ∷ []) prepared fits (part counts.0 before p between status (omega arith) more all f)) h
@@ -106,7 +106,7 @@ module _ (p : Payload) (ps : List Payload) (out : Outcome) (others : (s : Awaits
       let some_ = is_more columns z in
       rw (← append_assoc before (p ∷ []) ps) (others (Columns columns) h first (before ++ p ∷ []) [] counts status prepared (part counts.1 before p 2 status same more all f) (omega arith) (omega arith) tt)
 
-  parameters_made : (left columns : ℕ) (test : Bool) → (left == 0) ≡ test → (e : Option ℕ) → eof_status p ≡ e → (d : Bool) → is_some (definition_end p) ≡ d → proceed (cond test (given e (to_columns columns) Wrong) (cond d (Goes (Parameters (left - 1) columns)) Wrong)) ps (run ps) ≡ Whole out → (first : Payload) (before : List Payload) (counts : ℕ × ℕ) → prepared_counts first ≡ Some counts → counts.0 ≡ columns → counts.1 ≡ length before + left → 0 < counts.1 → AreDefinitions before → IsPrepare (first ∷ (before ++ (p ∷ ps))) out
+  parameters_made : (left columns : ℕ) (test : Bool) → (left == 0) ≡ test → (e : Option ℕ) → eof_status p ≡ e → (d : Bool) → is_definition p ≡ d → proceed (cond test (given e (to_columns columns) Wrong) (cond d (Goes (Parameters (left - 1) columns)) Wrong)) ps (run ps) ≡ Whole out → (first : Payload) (before : List Payload) (counts : ℕ × ℕ) → prepared_counts first ≡ Some counts → counts.0 ≡ columns → counts.1 ≡ length before + left → 0 < counts.1 → AreDefinitions before → IsPrepare (first ∷ (before ++ (p ∷ ps))) out
   parameters_made left columns true z (Some status) f d i h first before counts prepared after same more all =
       let none = is_zero left z in
       behind_parameters columns status (columns == 0) refl f h first before counts prepared after (omega arith) more all
@@ -125,25 +125,25 @@ module _ (p : Payload) (ps : List Payload) (out : Outcome) (others : (s : Awaits
   prepare_made None g (Some counts) i h = prepared_made counts i (counts.1 == 0) refl (counts.0 == 0) refl h
   prepare_made None g None i h = absurd cc
 
-  fields_made : (o : Option ℕ) → eof_status p ≡ o → (d : Bool) → is_some (definition_end p) ≡ d → proceed (given o (λ status. Done status) (cond d (Goes Fields) Wrong)) ps (run ps) ≡ Whole out → (before : List Payload) → AreDefinitions before → IsFieldList (before ++ (p ∷ ps)) out
+  fields_made : (o : Option ℕ) → eof_status p ≡ o → (d : Bool) → is_definition p ≡ d → proceed (given o (λ status. Done status) (cond d (Goes Fields) Wrong)) ps (run ps) ≡ Whole out → (before : List Payload) → AreDefinitions before → IsFieldList (before ++ (p ∷ ps)) out
   fields_made (Some status) f d i h before all = at_end (λ ps out. IsFieldList (before ++ (p ∷ ps)) out) (Accepted status) ps out (replies.fields before p all f) h
   fields_made None f true i h before all = rw (← append_assoc before (p ∷ []) ps) (others Fields h (before ++ p ∷ []) (all_push _ before p all i))
   fields_made None f false i h before all = absurd cc
 
   field_list_made : (e : Option ℕ) → err_code p ≡ e → proceed (given e (λ code. Failed code) (next Fields p)) ps (run ps) ≡ Whole out → IsFieldList (p ∷ ps) out
   field_list_made (Some code) g h = at_end (λ ps out. IsFieldList (p ∷ ps) out) (Refused code) ps out (replies.err g) h
-  field_list_made None g h = fields_made (eof_status p) refl (is_some (definition_end p)) refl h [] tt
+  field_list_made None g h = fields_made (eof_status p) refl (is_definition p) refl h [] tt
 
   one_made : (s : Awaits) → proceed (next s p) ps (run ps) ≡ Whole out → Made s (p ∷ ps) out
   one_made Simple h = simple_made (ok_status p) refl (err_code p) refl h
   one_made Query h = query_made (ok_status p) refl (err_code p) refl (column_count p) refl h
-  one_made (Definitions left) h = definitions_made left (left == 0) refl (eof_status p) refl (is_some (definition_end p)) refl h
+  one_made (Definitions left) h = definitions_made left (left == 0) refl (eof_status p) refl (is_definition p) refl h
   one_made Rows h = rows_made (eof_status p) refl (err_code p) refl (is_row p) refl h
   one_made Prepare h = prepare_made (err_code p) refl (prepared_counts p) refl h
-  one_made (Parameters left columns) h = parameters_made left columns (left == 0) refl (eof_status p) refl (is_some (definition_end p)) refl h
-  one_made (Columns left) h = columns_made left (left == 0) refl (eof_status p) refl (is_some (definition_end p)) refl h
+  one_made (Parameters left columns) h = parameters_made left columns (left == 0) refl (eof_status p) refl (is_definition p) refl h
+  one_made (Columns left) h = columns_made left (left == 0) refl (eof_status p) refl (is_definition p) refl h
   one_made FieldList h = field_list_made (err_code p) refl h
-  one_made Fields h = fields_made (eof_status p) refl (is_some (definition_end p)) refl h
+  one_made Fields h = fields_made (eof_status p) refl (is_definition p) refl h
 
 made : (ps : List Payload) (s : Awaits) (out : Outcome) → run ps s ≡ Whole out → Made s ps out
 made [] s out h = absurd cc

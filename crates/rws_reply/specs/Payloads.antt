@@ -1,10 +1,12 @@
 -- What the payloads of a reply are ("Result Set Packets" of MariaDB's protocol documentation). A payload is the list of
--- its bytes; places count from 0. An OK is read as between sides that have CLIENT_SESSION_TRACK: without a session
--- state its layout is the same.
-use Rattle.std.specs.Prelude.{ℕ, ◌+◌, ◌-◌, bit_and, Bool, true, false, not, ◌&&◌, ◌==◌, List, [], ◌∷◌, length, Option, Some, None, option_and_then, nat_lt, if◌then◌else◌}
+-- its bytes. An OK is read as between sides that have CLIENT_SESSION_TRACK: without a session state its layout is the
+-- same.
+use Rattle.std.specs.Prelude.{ℕ, suc, bit_and, Bool, true, false, not, ◌&&◌, ◌==◌, List, [], ◌∷◌, length, Option, Some, None, is_ok, nat_lt}
 use Rattle.std.specs.Option.{option_map}
 use Rattle.std.specs.Result.{result_ok}
-use Rattle.rws_wire.specs.Lenenc.{integer_at}
+use Rattle.rws_wire.specs.Lenenc.{Lenenc, Integer, lenenc}
+use Rattle.rws_msgs.specs.Reading.{◌>>=◌}
+use Rattle.rws_msgs.specs.Fields.{text_at}
 use Rattle.rws_msgs.specs.OkLayout.{ok_at}
 use Rattle.rws_msgs.specs.ErrLayout.{err_at}
 use Rattle.rws_msgs.specs.EofLayout.{eof_at}
@@ -30,31 +32,24 @@ prepared_counts payload = option_map (λ ok. (ok.columns, ok.parameters)) (resul
 abbrev pub has_more_results : ℕ → Bool
 has_more_results status = not (bit_and status 0x0008 == 0)
 
-infixl 10 ◌>>=◌
-abbrev pub ◌>>=◌ : {A B : Type 0} → Option A → (A → Option B) → Option B
-o >>= f = option_and_then f o
+-- a number of at least 1 with nothing behind it
+abbrev pub lone_count : Lenenc → Option ℕ
+lone_count (Integer (suc n) []) = Some (suc n)
+lone_count _ = None
 
 -- how many columns a result has: a length-encoded number of at least 1, alone in its payload
 unfoldable pub column_count : List ℕ → Option ℕ
-column_count payload = do
-  count ← integer_at payload 0
-  if (count.1 == length payload) && nat_lt 0 count.0 then Some count.0 else None
+column_count payload = lone_count (lenenc payload)
 
--- the place behind the length-encoded text at a place
-unfoldable pub behind_text : List ℕ → ℕ → Option ℕ
-behind_text payload at = do
-  size ← integer_at payload at
-  if nat_lt (length payload - size.1) size.0 then None else Some (size.1 + size.0)
-
--- a column definition begins with six texts: catalog, schema, table, original table, name, original name
-unfoldable pub definition_end : List ℕ → Option ℕ
-definition_end payload = do
-  catalog ← behind_text payload 0
-  schema ← behind_text payload catalog
-  table ← behind_text payload schema
-  original_table ← behind_text payload table
-  name ← behind_text payload original_table
-  behind_text payload name
+-- a column definition begins with six texts, of which the last is the original name; what follows them isn't looked at
+unfoldable pub is_definition : List ℕ → Bool
+is_definition payload = is_ok (do
+  catalog ← text_at payload
+  schema ← text_at catalog.1
+  table ← text_at schema.1
+  original_table ← text_at table.1
+  name ← text_at original_table.1
+  text_at name.1)
 
 abbrev pub begins_with : ℕ → List ℕ → Bool
 begins_with byte [] = false

@@ -1,10 +1,10 @@
 -- The whole replies to a command of each kind, as lists of payloads ("Result Set Packets", "COM_STMT_PREPARE" and
 -- "COM_FIELD_LIST" of MariaDB's protocol documentation).
-use Rattle.std.specs.Prelude.{◌≡◌, ℕ, ◌<◌, true, false, List, [], ◌∷◌, ◌++◌, length, Some, is_some}
+use Rattle.std.specs.Prelude.{◌≡◌, ℕ, ◌<◌, true, false, List, [], ◌∷◌, ◌++◌, length, Some}
 use Rattle.std.specs.List.{AllByRecursion}
 use Rattle.rws_reply.specs.declared.kind.Kind.{Kind}
 use Rattle.rws_reply.specs.declared.kind.Kind.TheVariants.{Simple, Query, Prepare, FieldList}
-use Rattle.rws_reply.specs.Payloads.{has_more_results, ok_status, err_code, eof_status, column_count, definition_end, is_row, prepared_counts}
+use Rattle.rws_reply.specs.Payloads.{has_more_results, ok_status, err_code, eof_status, column_count, is_definition, is_row, prepared_counts}
 
 abbrev pub Payload : Type 0
 Payload = List ℕ
@@ -17,7 +17,7 @@ pub data Outcome : Type 0 where
   Refused : (code : ℕ) → Outcome
 
 abbrev pub AreDefinitions : List Payload → Type 0
-AreDefinitions payloads = AllByRecursion (λ payload. is_some (definition_end payload) ≡ true) payloads
+AreDefinitions payloads = AllByRecursion (λ payload. is_definition payload ≡ true) payloads
 
 abbrev pub AreRows : List Payload → Type 0
 AreRows payloads = AllByRecursion (λ payload. is_row payload ≡ true) payloads

@@ -1,5 +1,5 @@
 -- Where a tracker stands in a reply, and what it says of the payloads so far.
-use Rattle.std.specs.Prelude.{◌≡◌, ◌==◌, ℕ, ◌-◌, List, [], ◌∷◌, Option, Some, None, Result, Ok, Err, is_some, if◌then◌else◌}
+use Rattle.std.specs.Prelude.{◌≡◌, ◌==◌, ℕ, ◌-◌, List, [], ◌∷◌, Option, Some, None, Result, Ok, Err, if◌then◌else◌}
 use Rattle.rws_reply.specs.declared.kind.Kind.{Kind}
 use Rattle.rws_reply.specs.declared.kind.Kind.TheVariants as kinds
 use Rattle.rws_reply.specs.declared.kind.Progress.{Progress}
@@ -9,7 +9,7 @@ use Rattle.rws_reply.specs.declared.awaits.Awaits.{Awaits}
 use Rattle.rws_reply.specs.declared.awaits.Awaits.TheVariants.{Simple, Query, Definitions, Rows, Prepare, Parameters, Columns, FieldList, Fields}
 use Rattle.rws_reply.specs.declared.awaits.Step.{Step}
 use Rattle.rws_reply.specs.declared.awaits.Step.TheVariants.{Goes, Done, Failed, Wrong}
-use Rattle.rws_reply.specs.Payloads.{has_more_results, ok_status, err_code, eof_status, column_count, definition_end, is_row, prepared_counts}
+use Rattle.rws_reply.specs.Payloads.{has_more_results, ok_status, err_code, eof_status, column_count, is_definition, is_row, prepared_counts}
 use Rattle.rws_reply.specs.Replies.{Payload, Outcome, Accepted, Refused, IsReply, Begins}
 
 abbrev pub given : {A : Type 0} → Option A → (A → Step) → Step → Step
@@ -31,7 +31,7 @@ to_parameters counts = if counts.1 == 0 then to_columns counts.0 0x0002 else Goe
 abbrev pub defined : ℕ → Payload → (ℕ → Step) → (ℕ → Step) → Step
 defined left payload fewer behind =
     if left == 0 then given (eof_status payload) behind Wrong
-    else (if is_some (definition_end payload) then fewer (left - 1) else Wrong)
+    else (if is_definition payload then fewer (left - 1) else Wrong)
 
 -- what one more payload leads to
 abbrev pub next : Awaits → Payload → Step
@@ -42,8 +42,8 @@ next Rows p = given (eof_status p) after_result (given (err_code p) (λ code. Fa
 next Prepare p = given (err_code p) (λ code. Failed code) (given (prepared_counts p) to_parameters Wrong)
 next (Parameters left columns) p = defined left p (λ left. Goes (Parameters left columns)) (to_columns columns)
 next (Columns left) p = defined left p (λ left. Goes (Columns left)) (λ status. Done status)
-next FieldList p = given (err_code p) (λ code. Failed code) (given (eof_status p) (λ status. Done status) (if is_some (definition_end p) then Goes Fields else Wrong))
-next Fields p = given (eof_status p) (λ status. Done status) (if is_some (definition_end p) then Goes Fields else Wrong)
+next FieldList p = given (err_code p) (λ code. Failed code) (given (eof_status p) (λ status. Done status) (if is_definition p then Goes Fields else Wrong))
+next Fields p = given (eof_status p) (λ status. Done status) (if is_definition p then Goes Fields else Wrong)
 
 -- what a list of payloads is: a whole reply, less than one, or neither
 pub data Verdict : Type 0 where

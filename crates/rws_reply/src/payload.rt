@@ -1,10 +1,10 @@
 //! What a payload of a reply is, by its bytes.
 
-ghost use Rattle.std.specs.Prelude.{◌≡◌, ◌+◌, ◌<◌, ◌≤◌, length, is_some, IfSome};
-ghost use Rattle.rws_reply.specs.Payloads.{behind_text, has_more_results, ok_status, err_code, eof_status, column_count, definition_end, is_row, prepared_counts};
+ghost use Rattle.std.specs.Prelude.{◌≡◌, is_ok};
+ghost use Rattle.rws_reply.specs.Payloads.{has_more_results, ok_status, err_code, eof_status, column_count, is_definition, is_row, prepared_counts};
 
-use rws_msgs::{EofMsg, PrepareOk};
-use rws_wire::read_lenenc;
+use rws_msgs::{EofMsg, MsgFault, PrepareOk, split_text};
+use rws_wire::split_lenenc;
 
 /// Status bit `SERVER_MORE_RESULTS_EXIST`.
 const MORE_RESULTS: u16 = 0x0008;
@@ -14,18 +14,6 @@ pub fn has_more(status: u16) -> bool
     ensures { result ≡ has_more_results status }
 {
     status & MORE_RESULTS != 0
-}
-
-#[tactic(auto, unfolding(crate::specs::Payloads::behind_text))]
-fn text_end(payload: &[u8], at: usize) -> Option<usize>
-    ensures value { result ≡ behind_text payload.now at }
-    ensures inside { IfSome result (λ end. end ≤ length payload.now) }
-{
-    let (size, start) = read_lenenc(payload, at)?;
-    if ((payload.len() - start) as u64) < size {
-        return None;
-    }
-    Some(start + size as usize)
 }
 
 /// The status of an OK.
@@ -60,32 +48,31 @@ pub fn eof(payload: &[u8]) -> Option<u16>
 pub fn columns(payload: &[u8]) -> Option<u64>
     ensures { result ≡ column_count payload.now }
 {
-    let (count, end) = read_lenenc(payload, 0)?;
-    if end == payload.len() && count > 0 {
-        Some(count)
-    } else {
-        None
+    match split_lenenc(payload) {
+        Ok((count, [])) if count > 0 => Some(count),
+        _ => None,
     }
 }
 
-/// Whether it is a column definition. Only its six texts are looked at.
-#[tactic(auto, unfolding(crate::specs::Payloads::definition_end))]
-fn six_texts(payload: &[u8]) -> Option<usize>
-    ensures { result ≡ definition_end payload.now }
+/// Reads over the six texts of a column definition.
+#[tactic(auto, unfolding(crate::specs::Payloads::is_definition))]
+fn six_texts(payload: &[u8]) -> Result<(), MsgFault>
+    ensures { is_ok result ≡ is_definition payload.now }
 {
-    let catalog = text_end(payload, 0)?;
-    let schema = text_end(payload, catalog)?;
-    let table = text_end(payload, schema)?;
-    let original_table = text_end(payload, table)?;
-    let name = text_end(payload, original_table)?;
-    text_end(payload, name)
+    let (_catalog, rest) = split_text(payload)?;
+    let (_schema, rest) = split_text(rest)?;
+    let (_table, rest) = split_text(rest)?;
+    let (_original_table, rest) = split_text(rest)?;
+    let (_name, rest) = split_text(rest)?;
+    let (_original_name, _) = split_text(rest)?;
+    Ok(())
 }
 
-/// Whether it is a column definition.
+/// Whether it is a column definition. Only its six texts are looked at.
 pub fn definition(payload: &[u8]) -> bool
-    ensures { result ≡ is_some (definition_end payload.now) }
+    ensures { result ≡ is_definition payload.now }
 {
-    six_texts(payload).is_some()
+    six_texts(payload).is_ok()
 }
 
 /// Whether it is a row of a result.
