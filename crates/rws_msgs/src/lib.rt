@@ -25,4 +25,6 @@ pub use response::Response;
 pub use switch::Switch;
 
 #[cfg(test)]
+mod captured;
+#[cfg(test)]
 mod tests;

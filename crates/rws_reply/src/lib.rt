@@ -2,6 +2,8 @@
 #![tactic(auto)]
 
 mod awaits;
+#[cfg(test)]
+mod captured;
 mod kind;
 mod payload;
 #[cfg(test)]

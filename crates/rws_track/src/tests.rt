@@ -70,3 +70,36 @@ fn several_entries(rt: HostRuntime) -> Result<(), Fail> {
     }
     Ok(())
 }
+
+/// OKs of a MariaDB 10.11 server, with the sequence of the GTID that each names: of an UPDATE, CREATE PROCEDURE, SET NAMES, SET autocommit,
+/// USE and a statement inside of a transaction.
+const CAPTURED: [(&[u8], Option<u64>); 6] = [
+    (
+        b"\x00\x01\x00\x02@\x00\x00(Rows matched: 1  Changed: 1  Warnings: 0\x12\x00\x10\x09last_gtid\x050-1-4",
+        Some(4),
+    ),
+    (
+        b"\x00\x00\x00\x02@\x00\x00\x00\x12\x00\x10\x09last_gtid\x050-1-7",
+        Some(7),
+    ),
+    (
+        b"\x00\x00\x00\x02@\x00\x00\x00b\x00!\x18character_set_connection\x07utf8mb4\x00\x1d\x14character_set_client\x07utf8mb4\
+        \x00\x1e\x15character_set_results\x07utf8mb4",
+        None,
+    ),
+    (
+        b"\x00\x00\x00\x00@\x00\x00\x00\x11\x00\x0f\x0aautocommit\x03OFF",
+        None,
+    ),
+    (b"\x00\x00\x00\x02@\x00\x00\x00\x07\x01\x05\x04test", None),
+    (b"\x00\x01\x00\x03\x00\x00\x00", None),
+];
+
+#[test]
+fn oks_of_a_server(rt: HostRuntime) -> Result<(), Fail> {
+    for (payload, sequence) in CAPTURED {
+        let ok = OkMsg::decode(rt.alloc(), payload, true)?;
+        assert_eq!(rt; gtid_of(&ok, 0).map(|gtid| gtid.sequence), sequence);
+    }
+    Ok(())
+}
