@@ -4,14 +4,14 @@ use Rattle.std.specs.List.{list_any, filter}
 use Rattle.std.specs.Option.{option_map}
 use Rattle.rws_token.specs.declared.token.Unclosed.{Unclosed}
 use Rattle.rws_token.specs.Lexed.{Reading, left_of}
-use Rattle.rws_class.specs.Seen.{Seen, seen, is_symbol}
+use Rattle.rws_set.specs.Seen.{Seen, seen, is_symbol}
 use Rattle.rws_class.specs.Places.{Place, places_from, places}
 use Rattle.rws_class.specs.Numbers.{is_unfit}
 use Rattle.rws_class.specs.Classes.{class_of, places_class, statement_class, is_no_semicolon, seen_in}
 use Rattle.rws_class.specs.States.{Ahead, ahead, before_lexeme, reader_left, places_left, class_left}
 use Rattle.rws_class.specs.declared.class.Class.{Class}
 use Rattle.rws_class.specs.declared.class.Class.TheVariants.{Other}
-use Rattle.rws_class.specs.declared.lexeme.Lexeme.{Lexeme}
+use Rattle.rws_set.specs.declared.lexeme.Lexeme.{Lexeme}
 use Rattle.rws_class.specs.declared.lexemes.Lexemes.{Lexemes}
 use Rattle.rws_class.specs.declared.statement.Reader.{Reader}
 

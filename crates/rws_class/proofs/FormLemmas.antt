@@ -2,7 +2,7 @@
 use Rattle.std.proofs.Common.{◌≡◌, ℕ, suc, ◌≤◌, Bool, true, false, ◌&&◌, cond, List, [], ◌∷◌, length, nat_lt, refl, ap, arith}
 use Rattle.std.specs.List.{list_all}
 use Rattle.std.proofs.lemmas.Bool.{ltb-true}
-use Rattle.rws_class.specs.Seen.{Seen}
+use Rattle.rws_set.specs.Seen.{Seen}
 use Rattle.rws_class.specs.Forms.{Part, Form, fits, reads, form_class}
 use Rattle.rws_class.specs.declared.class.Class.TheVariants.{Other}
 

@@ -1,4 +1,2 @@
-pub mod Tables
 pub mod FormLemmas
-pub mod ModeLemmas
 pub mod ClassLemmas

@@ -1,18 +1,18 @@
 -- The class of a text.
-use Rattle.std.specs.Prelude.{ℕ, Bool, not, ◌&&◌, ◌||◌, if◌then◌else◌, is_some, List, [], ◌∷◌, codes, map, filter, drop, slice_range}
+use Rattle.std.specs.Prelude.{ℕ, Bool, not, ◌&&◌, ◌||◌, if◌then◌else◌, is_some, List, [], ◌∷◌, codes, map, filter, slice_range}
 use Rattle.std.specs.List.{list_any}
 use Rattle.rws_token.specs.Lexed.{Lexed, lexed_of}
 use Rattle.rws_token.specs.declared.token.Token.{Token}
 use Rattle.rws_token.specs.declared.token.TokenKind.TheVariants.{Word, SysVar}
-use Rattle.rws_class.specs.Seen.{Seen, is_kind, is_symbol}
-use Rattle.rws_class.specs.Words.{is_on, words, refused_names}
-use Rattle.rws_class.specs.Places.{Place, places, is_one_of, is_primary_call, is_foreign_call}
+use Rattle.rws_set.specs.Seen.{Seen, is_kind, is_symbol}
+use Rattle.rws_set.specs.Words.{is_on, is_one_of, words, refused_names}
+use Rattle.rws_class.specs.Places.{Place, places, is_primary_call, is_foreign_call}
 use Rattle.rws_class.specs.Numbers.{is_unfit}
 use Rattle.rws_class.specs.Rules.{query_class, show_class, change_class, insert_class, define_class, create_class}
 use Rattle.rws_class.specs.Forms.{forms, form_class}
-use Rattle.rws_class.specs.Settings.{begins_scope, last_part, items_effect}
-use Rattle.rws_class.specs.declared.setting.Effect.{Effect}
-use Rattle.rws_class.specs.declared.setting.Effect.TheVariants as effect
+use Rattle.rws_set.specs.Settings.{is_global, last_part, items_effect}
+use Rattle.rws_set.specs.declared.setting.Effect.{Effect}
+use Rattle.rws_set.specs.declared.setting.Effect.TheVariants as effect
 use Rattle.rws_class.specs.declared.verb.Verb.{Verb}
 use Rattle.rws_class.specs.declared.verb.Verb.TheVariants.{Query, Show, Change, Insert, Define, Create, Fixed, Set, Unknown}
 use Rattle.rws_class.specs.declared.class.Class.{Class}
@@ -25,9 +25,6 @@ abbrev pub is_refused : Place → Bool
 is_refused p =
     (is_kind p.this.kind Word && is_on refused_names p.this.bytes)
     || (is_kind p.this.kind SysVar && is_on refused_names (last_part p.this.bytes))
-
-abbrev pub is_global : Seen → Bool
-is_global t = is_kind t.kind SysVar && begins_scope (codes "GLOBAL.") (drop 2 t.bytes)
 
 -- a value that isn't the session's own, or that a call gives
 abbrev pub names_beyond : Seen → Bool

@@ -2,8 +2,9 @@
 -- without a list of variables.
 use Rattle.std.specs.Prelude.{ℕ, Bool, true, false, ◌&&◌, ◌||◌, if◌then◌else◌, List, [], ◌∷◌, ◌++◌, codes, map}
 use Rattle.rws_token.specs.declared.token.TokenKind.TheVariants.{Word, Str}
-use Rattle.rws_class.specs.Seen.{Seen, is_kind, is_word, unquoted}
-use Rattle.rws_class.specs.Words.{is_on, words, character_sets}
+use Rattle.rws_set.specs.Seen.{Seen, is_kind, is_word}
+use Rattle.rws_set.specs.Words.{words}
+use Rattle.rws_set.specs.Settings.{is_character_set}
 use Rattle.rws_class.specs.Places.{is_name}
 use Rattle.rws_class.specs.declared.class.Class.{Class}
 use Rattle.rws_class.specs.declared.class.Class.TheVariants.{Session, Begin, BeginReadOnly, Commit, Rollback, TrxLocal, Other}
@@ -15,12 +16,6 @@ pub data Part : Type 0 where
   AnyWord : Part
   CharacterSet : Part
   Text : Part
-
--- a word, or a string without its quotes, that reads as a character set of the list
-abbrev pub is_character_set : Seen → Bool
-is_character_set t =
-    (is_kind t.kind Word && is_on character_sets t.bytes)
-    || (is_kind t.kind Str && is_on character_sets (unquoted t.bytes))
 
 abbrev pub fits : Part → Seen → Bool
 fits (The text) t = is_word text t

@@ -1,13 +1,8 @@
 pub mod Numbers
 pub mod Places
-pub mod Seen
-pub mod Words
 pub mod Rules
 pub mod States
 pub mod Forms
 pub mod Views
 pub mod Opening
-pub mod Settings
-pub mod Mode
-pub mod Items
 pub mod Classes

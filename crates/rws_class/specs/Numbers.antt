@@ -3,7 +3,7 @@ use Rattle.std.specs.Prelude.{ℕ, Bool, true, false, not, ◌&&◌, ◌||◌, �
 use Rattle.std.specs.List.{list_all}
 use Rattle.std.specs.Char.{is_ascii_digit, is_ascii_hexdigit}
 use Rattle.rws_token.specs.declared.token.TokenKind.TheVariants.{Number, Exec}
-use Rattle.rws_class.specs.Seen.{Seen, is_kind, is_symbol}
+use Rattle.rws_set.specs.Seen.{Seen, is_kind, is_symbol}
 use Rattle.rws_class.specs.Places.{Place, is_next, opens}
 
 abbrev pub is_empty : List ℕ → Bool

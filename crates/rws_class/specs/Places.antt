@@ -2,8 +2,8 @@
 use Rattle.std.specs.Prelude.{ℕ, Bool, false, not, ◌&&◌, ◌||◌, Option, Some, None, List, [], ◌∷◌}
 use Rattle.std.specs.Option.{option_map}
 use Rattle.rws_token.specs.declared.token.TokenKind.TheVariants.{Word, Quoted}
-use Rattle.rws_class.specs.Seen.{Seen, seen, is_kind, is_symbol, unquoted}
-use Rattle.rws_class.specs.Words.{is_on, key_words, pure_names, primary_names}
+use Rattle.rws_set.specs.Seen.{Seen, seen, is_kind, is_symbol, unquoted}
+use Rattle.rws_set.specs.Words.{is_on, is_one_of, key_words, pure_names, primary_names}
 use Rattle.rws_class.specs.declared.window.Window.{Window}
 
 -- A token, whether a dot stands right before it, and the token behind it
@@ -32,10 +32,6 @@ passes test (Some t) = test t
 -- the token behind this one passes a test
 abbrev pub is_next : (Seen → Bool) → Place → Bool
 is_next test p = passes test p.next
-
--- a word of a list
-abbrev pub is_one_of : List (List ℕ) → Seen → Bool
-is_one_of names t = is_kind t.kind Word && is_on names t.bytes
 
 abbrev pub is_name : Seen → Bool
 is_name t = is_kind t.kind Word || is_kind t.kind Quoted

@@ -3,16 +3,16 @@ use Rattle.std.specs.Prelude.{ℕ, ◌<◌, ◌≤◌, Bool, true, false, not, �
 use Rattle.std.specs.List.{list_any}
 use Rattle.rws_token.specs.Lexed.{left_of}
 use Rattle.rws_token.specs.declared.token.Unclosed.{Unclosed}
-use Rattle.rws_class.specs.Seen.{Seen, seen}
+use Rattle.rws_set.specs.Seen.{Seen, seen}
 use Rattle.rws_class.specs.Places.{Place, places_from, opens, is_foreign_call}
 use Rattle.rws_class.specs.Numbers.{is_unfit}
 use Rattle.rws_class.specs.Rules.{reaches_out, is_no_query, locks_rows, needs_primary, is_assign, ends_columns, behind_columns, is_no_ddl, behind_source}
 use Rattle.rws_class.specs.Opening.{fixed_left}
-use Rattle.rws_class.specs.Items.{items_left}
+use Rattle.rws_set.specs.Items.{items_left}
 use Rattle.rws_class.specs.Classes.{is_refused, is_beyond_session, effect_class, tokens_of, or_else, statement_class, is_no_semicolon, seen_in}
 use Rattle.rws_class.specs.declared.class.Class.{Class}
 use Rattle.rws_class.specs.declared.class.Class.TheVariants.{Read, PrimaryRead, Write, Ddl, Refused, Other}
-use Rattle.rws_class.specs.declared.lexeme.Lexeme.{Lexeme}
+use Rattle.rws_set.specs.declared.lexeme.Lexeme.{Lexeme}
 use Rattle.rws_class.specs.declared.lexemes.Lexemes.{Lexemes}
 use Rattle.rws_class.specs.declared.reader.Query as query
 use Rattle.rws_class.specs.declared.reader.Insert as insert

@@ -4,11 +4,11 @@ ghost use Rattle.std.specs.Prelude.{◌≡◌};
 ghost use Rattle.rws_class.specs.Classes.{class_of};
 
 use crate::class::Class;
-use crate::lexeme::is_symbol;
 use crate::lexemes::Lexemes;
 use crate::number::is_unfit;
 use crate::statement::Reader;
 use crate::window::Window;
+use rws_set::is_symbol;
 
 /// The class of a statement's text, the bytes of a COM_QUERY behind its command byte. A text that is
 /// none, or more than one statement, is of class Other.

@@ -1,15 +1,14 @@
 // Statements of a fixed form.
 
 ghost use Rattle.std.specs.Prelude.{◌≡◌, map};
-ghost use Rattle.rws_class.specs.Seen.{seen};
-ghost use Rattle.rws_class.specs.Forms.{fits, reads, is_character_set, form_class, forms};
+ghost use Rattle.rws_set.specs.Seen.{seen};
+ghost use Rattle.rws_class.specs.Forms.{fits, reads, form_class, forms};
 ghost use Rattle.rws_class.specs.Views.{part_of, forms_of};
 
 use crate::class::Class;
 use crate::form::Part::{AnyWord, CharacterSet, Name, Text, The};
-use crate::lexeme::{Lexeme, is_kind, is_word, unquoted};
-use crate::table::is_character_set as is_set_name;
 use crate::window::is_name;
+use rws_set::{Lexeme, is_character_set, is_kind, is_word};
 use rws_token::TokenKind;
 
 /// What may stand at one place of a form.
@@ -21,17 +20,6 @@ pub(crate) enum Part {
     CharacterSet,
     /// A word or a string.
     Text,
-}
-
-/// Whether it is a character set in which a byte below 0x80 is always a character of its own.
-pub(crate) fn is_character_set(lexeme: &Lexeme<'_>) -> bool
-    ensures { result ≡ is_character_set (seen lexeme.now) }
-{
-    match lexeme.kind {
-        TokenKind::Word => is_set_name(lexeme.bytes),
-        TokenKind::Str => is_set_name(unquoted(lexeme.bytes)),
-        _ => false,
-    }
 }
 
 fn fits(part: &Part, lexeme: &Lexeme<'_>) -> bool

@@ -2,7 +2,7 @@
 
 ghost use Rattle.std.specs.Prelude.{◌≡◌};
 
-use crate::lexeme::Lexeme;
+use rws_set::Lexeme;
 use rws_token::{Tokens, Unclosed};
 
 #[derive(Drop)]

@@ -4,18 +4,13 @@
 mod class;
 mod classifier;
 mod form;
-mod item;
-mod lexeme;
 mod lexemes;
-mod mode;
 mod number;
 mod opening;
 mod reader;
 mod rule;
 mod set;
-mod setting;
 mod statement;
-mod table;
 mod verb;
 mod window;
 

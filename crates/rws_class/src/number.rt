@@ -6,8 +6,8 @@ ghost use Rattle.std.specs.Char.{is_ascii_digit, is_ascii_hexdigit};
 ghost use Rattle.rws_class.specs.Numbers.{is_binary, is_power, is_exponent, is_decimal, is_radix, is_prefixed, is_plain, is_sign, is_odd_number, is_unfit};
 ghost use Rattle.rws_class.specs.Places.{place, is_next};
 
-use crate::lexeme::{is_kind, is_symbol};
 use crate::window::{Window, is_next_symbol, opens};
+use rws_set::{is_kind, is_symbol};
 use rws_token::TokenKind;
 
 fn are_digits(bytes: &[u8]) -> bool

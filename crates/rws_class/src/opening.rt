@@ -1,12 +1,12 @@
 // The first tokens of a statement, kept until it is known whether the statement has a fixed form.
 
 ghost use Rattle.std.specs.Prelude.{◌≡◌, ◌≤◌, [], ◌∷◌, List, length};
-ghost use Rattle.rws_class.specs.Seen.{Seen, seen};
+ghost use Rattle.rws_set.specs.Seen.{Seen, seen};
 ghost use Rattle.rws_class.specs.Forms.{form_class, forms};
 
 use crate::class::Class;
 use crate::form::fixed_class;
-use crate::lexeme::Lexeme;
+use rws_set::Lexeme;
 use rws_token::TokenKind;
 
 /// One more token than the longest form has. A statement of so many tokens has none.

@@ -1,13 +1,13 @@
 // What the rules on a statement ask of each token.
 
 ghost use Rattle.std.specs.Prelude.{◌≡◌, [], ◌∷◌, codes};
-ghost use Rattle.rws_class.specs.Seen.{seen, is_word};
-ghost use Rattle.rws_class.specs.Words.{is_on, words};
-ghost use Rattle.rws_class.specs.Places.{place, is_next, is_one_of, is_named};
+ghost use Rattle.rws_set.specs.Seen.{seen, is_word};
+ghost use Rattle.rws_set.specs.Words.{is_on, is_one_of, words};
+ghost use Rattle.rws_class.specs.Places.{place, is_next, is_named};
 ghost use Rattle.rws_class.specs.Rules.{reaches_out, is_sequence, is_no_query, locks_rows, is_of_server, asks_connection, needs_primary, is_assign, ends_columns, is_no_ddl, is_source};
 
-use crate::lexeme::{Lexeme, is_kind, is_word, same_word, unquoted};
 use crate::window::{Window, is_foreign_call, is_next_symbol, is_next_word, is_primary_call};
+use rws_set::{Lexeme, is_kind, is_word, same_word, unquoted};
 use rws_token::TokenKind;
 
 pub(crate) fn is_assign(window: &Window<'_>) -> bool

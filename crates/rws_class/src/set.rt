@@ -1,18 +1,15 @@
 // A reader of SET.
 
 ghost use Rattle.std.specs.Prelude.{◌≡◌, ◌+◌, ◌^◌, ◌<◌, ◌≤◌, ◌∷◌, [], List};
-ghost use Rattle.rws_class.specs.Seen.{seen};
+ghost use Rattle.rws_set.specs.Seen.{seen};
 ghost use Rattle.rws_class.specs.Places.{Place, place};
-ghost use Rattle.rws_class.specs.Classes.{is_refused, is_global, names_beyond, is_beyond_session, effect_class, or_else, tokens_of, set_class};
+ghost use Rattle.rws_class.specs.Classes.{is_refused, names_beyond, is_beyond_session, effect_class, or_else, tokens_of, set_class};
 ghost use Rattle.rws_class.specs.Forms.{form_class, forms};
 ghost use Rattle.rws_class.specs.declared.class.Class.{Class};
 
 use crate::class::Class;
-use crate::item::Items;
-use crate::lexeme::{Lexeme, is_kind, is_word};
-use crate::setting::{Effect, begins, behind, last_part};
-use crate::table::is_refused_name;
 use crate::window::{Window, is_foreign_call, is_primary_call};
+use rws_set::{Effect, Items, Lexeme, is_global, is_refused_name, is_word, last_part};
 use rws_token::TokenKind;
 
 /// Whether it is a variable that isn't to be touched.
@@ -24,12 +21,6 @@ fn is_refused(window: &Window<'_>) -> bool
         TokenKind::SysVar => is_refused_name(last_part(window.this.bytes)),
         _ => false,
     }
-}
-
-fn is_global(lexeme: &Lexeme<'_>) -> bool
-    ensures { result ≡ is_global (seen lexeme.now) }
-{
-    is_kind(lexeme, TokenKind::SysVar) && begins(behind(lexeme.bytes, 2), b"GLOBAL.")
 }
 
 fn names_beyond(lexeme: &Lexeme<'_>) -> bool

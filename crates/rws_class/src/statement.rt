@@ -7,13 +7,13 @@ ghost use Rattle.rws_class.specs.Forms.{form_class, forms};
 ghost use Rattle.rws_class.specs.declared.class.Class.{Class};
 
 use crate::class::Class;
-use crate::lexeme::is_symbol;
 use crate::opening::Opening;
 use crate::reader::{Create, Insert, Query};
 use crate::rule::{is_no_ddl, reaches_out};
 use crate::set::SetReader;
 use crate::verb::{Verb, verb_of};
 use crate::window::Window;
+use rws_set::is_symbol;
 
 /// What was read of a statement, as far as its class needs it.
 #[derive(Clone, Copy)]

@@ -1,11 +1,10 @@
 // The first word of a statement.
 
 ghost use Rattle.std.specs.Prelude.{◌≡◌};
-ghost use Rattle.rws_class.specs.Seen.{seen};
+ghost use Rattle.rws_set.specs.Seen.{seen};
 ghost use Rattle.rws_class.specs.Classes.{verb_of_word, verb_of};
 
-use crate::lexeme::Lexeme;
-use crate::table::is_among;
+use rws_set::{Lexeme, is_among};
 use rws_token::TokenKind;
 
 /// What the first word says of the rules for a statement.

@@ -1,12 +1,11 @@
 // A token with what stands beside it: which tokens are calls, and of what.
 
 ghost use Rattle.std.specs.Prelude.{◌≡◌};
-ghost use Rattle.rws_class.specs.Seen.{seen, is_word, is_symbol};
-ghost use Rattle.rws_class.specs.Words.{is_on};
+ghost use Rattle.rws_set.specs.Seen.{seen, is_word, is_symbol};
+ghost use Rattle.rws_set.specs.Words.{is_on};
 ghost use Rattle.rws_class.specs.Places.{place, is_next, is_name, opens, stands_bare, is_call, is_known, is_primary_call, is_foreign_call};
 
-use crate::lexeme::{Lexeme, is_kind, is_symbol, is_word};
-use crate::table::{is_key_word, is_primary, is_pure};
+use rws_set::{Lexeme, is_key_word, is_kind, is_primary, is_pure, is_symbol, is_word};
 use rws_token::TokenKind;
 
 /// A token, whether a dot stands right before it, and the token behind it.

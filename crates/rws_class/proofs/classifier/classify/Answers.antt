@@ -1,5 +1,5 @@
 use Rattle.std.proofs.Common.{◌≡◌, false, Ok, length, sym, ap, ◌∙◌, arith}
-use Rattle.rws_class.specs.Seen.{seen}
+use Rattle.rws_set.specs.Seen.{seen}
 use Rattle.rws_class.specs.Places.{place}
 use Rattle.rws_class.specs.Numbers.{is_unfit}
 use Rattle.rws_class.specs.States.{ahead, before_lexeme, class_left}

@@ -1,5 +1,5 @@
 use Rattle.std.proofs.Common.{◌≡◌, ◌-◌, ◌≤◌, length}
-use Rattle.rws_class.specs.Seen.{seen}
+use Rattle.rws_set.specs.Seen.{seen}
 use Rattle.rws_class.specs.Classes.{class_of}
 use Rattle.rws_class.specs.States.{class_left, ahead, reader_depth}
 use Rattle.rws_class.proofs.classifier.classify.Given as goal

@@ -1,5 +1,5 @@
 use Rattle.std.proofs.Common.{◌≡◌, map, length}
-use Rattle.rws_class.specs.Seen.{seen}
+use Rattle.rws_set.specs.Seen.{seen}
 use Rattle.rws_class.specs.Forms.{form_class}
 use Rattle.rws_class.specs.Views.{forms_of}
 use Rattle.rws_class.proofs.form.form_class.Given as goal

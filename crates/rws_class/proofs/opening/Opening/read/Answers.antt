@@ -1,6 +1,6 @@
 use Rattle.std.proofs.Common.{◌≡◌, ◌≤◌, List, ◌∷◌, ◌++◌, take, refl, sym, ◌∙◌, arith, length-append}
 use Rattle.std.proofs.lemmas.List.{length-map, length-take-le}
-use Rattle.rws_class.specs.Seen.{Seen, seen}
+use Rattle.rws_set.specs.Seen.{Seen, seen}
 use Rattle.rws_class.specs.Forms.{forms, form_class}
 use Rattle.rws_class.specs.Opening.{kept}
 use Rattle.rws_class.specs.declared.class.Class.TheVariants.{Other}

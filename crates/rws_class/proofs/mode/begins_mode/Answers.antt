@@ -1,7 +1,0 @@
-use Rattle.rws_class.specs.Words.{mode_words}
-use Rattle.rws_class.proofs.mode.begins_mode.Goals as goal
-
--- the program's list is the list of words
-pub returns : goal.returns
-unfolding mode_words
-returns c = c.begins_any.ensures

@@ -1,0 +1,9 @@
+use Rattle.std.proofs.Common.{refl, ◌∙◌}
+use Rattle.rws_set.specs.Words.{refused_names}
+use Rattle.rws_set.proofs.Tables.{is_on-grouped, grouped}
+use Rattle.rws_set.proofs.table.is_refused_name.Goals as goal
+
+-- the table is the list's names by their lengths
+pub returns : goal.returns
+unfolding refused_names grouped
+returns c = c.contains.ensures ∙ is_on-grouped 31 refused_names c.args.word.now refl

@@ -1,0 +1,5 @@
+pub mod Seen
+pub mod Words
+pub mod Settings
+pub mod Mode
+pub mod Items
