@@ -1,5 +1,5 @@
 -- Reading a payload packet by packet.
-use Rattle.std.proofs.Common.{◌≡◌, ℕ, ◌+◌, ◌<◌, ◌≤◌, List, [], ◌++◌, length, take, drop, Err, refl, sym, ap, ◌∙◌, arith}
+use Rattle.std.proofs.Common.{◌≡◌, ℕ, true, false, ◌+◌, ◌<◌, ◌≤◌, List, [], ◌++◌, length, take, drop, Err, refl, sym, ap, ◌∙◌, arith}
 use Rattle.std.proofs.lemmas.List.{length-append, length-drop, length-take}
 use Rattle.rws_wire.specs.declared.fault.WireFault.{WireFault}
 use Rattle.rws_wire.specs.declared.fault.WireFault.TheVariants.{OutOfOrder, TooLarge, OutOfMemory}
@@ -8,7 +8,7 @@ use Rattle.rws_wire.specs.declared.packet.Packet.TheVariants.{Partial, Bad, More
 use Rattle.rws_wire.specs.Numbers.{AreBytes}
 use Rattle.rws_wire.specs.Packets.{next_number, number_behind, spelling}
 use Rattle.rws_wire.specs.Payloads.{packet_of, Beginning, Nothing, Whole, Faulty, payload_behind, first_payload}
-use Rattle.rws_wire.specs.Gathering.{Gathers}
+use Rattle.rws_wire.specs.Gathering.{Gathers, is_decided}
 use Rattle.rws_wire.proofs.PayloadLemmas.{behind_partial, behind_bad, behind_more, behind_last, first_payload-is, first_payload_spelled, more_fits}
 
 -- what is read behind the bytes so far is what all bytes begin with
@@ -66,6 +66,21 @@ pub looks_partial : (limit first : ℕ) (bytes : List ℕ) (number before : ℕ)
     → packet_of limit number before rest ≡ Partial → first_payload limit first bytes ≡ Nothing
 looks_partial limit first bytes number before rest l e =
     reads_partial limit first bytes number l.seen rest l.reads (ap (λ (n : ℕ). packet_of limit number n rest) l.long ∙ e)
+
+pub looks_bad : (limit first : ℕ) (bytes : List ℕ) (number before : ℕ) (rest : List ℕ) (fault : WireFault) → Looks limit first bytes number before rest
+    → packet_of limit number before rest ≡ Bad fault → is_decided (first_payload limit first bytes) ≡ true
+looks_bad limit first bytes number before rest fault l e =
+    ap is_decided (reads_bad limit first bytes number l.seen rest fault l.reads (ap (λ (n : ℕ). packet_of limit number n rest) l.long ∙ e))
+
+pub looks_last : (limit first : ℕ) (bytes : List ℕ) (number before : ℕ) (rest : List ℕ) (size : ℕ) → Looks limit first bytes number before rest
+    → packet_of limit number before rest ≡ Last size → is_decided (first_payload limit first bytes) ≡ true
+looks_last limit first bytes number before rest size l e =
+    ap is_decided (reads_last limit first bytes number l.seen rest size l.reads (ap (λ (n : ℕ). packet_of limit number n rest) l.long ∙ e))
+
+pub undecided : (beginning : Beginning) → false ≡ is_decided beginning → beginning ≡ Nothing
+undecided Nothing e = refl
+undecided (Whole payload next rest) e = absurd cc
+undecided (Faulty fault) e = absurd cc
 
 pub looks_more : (limit first : ℕ) (bytes : List ℕ) (number before : ℕ) (rest : List ℕ) (size : ℕ) → Looks limit first bytes number before rest
     → packet_of limit number before rest ≡ More size

@@ -1,5 +1,5 @@
 -- What reading the first payload of bytes gives.
-use Rattle.std.specs.Prelude.{◌≡◌, ℕ, Option, Some, None, Result, Ok, Err, List, ◌++◌}
+use Rattle.std.specs.Prelude.{◌≡◌, ℕ, Bool, true, false, Option, Some, None, Result, Ok, Err, List, ◌++◌}
 use Rattle.std.specs.Borrow.{Bor}
 use Rattle.rws_wire.specs.declared.fault.WireFault.{WireFault}
 use Rattle.rws_wire.specs.declared.fault.WireFault.TheVariants.{OutOfOrder, TooLarge, OutOfMemory}
@@ -18,3 +18,9 @@ Gathers (Err (TooLarge length)) beginning = beginning ≡ Faulty (TooLarge lengt
 abbrev pub IsSpelled : List ℕ → ℕ → List ℕ → Payload → Type 0
 IsSpelled held first rest payload =
     (held ≡ spelling first payload.bytes ++ rest) × (payload.next ≡ number_behind first payload.bytes)
+
+-- bytes begin with a whole payload or a fault
+abbrev pub is_decided : Beginning → Bool
+is_decided Nothing = false
+is_decided (Whole payload next rest) = true
+is_decided (Faulty fault) = true

@@ -1,7 +1,7 @@
 // Payloads read from packets.
-ghost use Rattle.std.specs.Prelude.{◌≡◌, ◌+◌, ◌<◌, ◌≤◌, ◌^◌, drop, length, take, false, IfOk, IfSome};
-ghost use Rattle.rws_wire.specs.Payloads.{Nothing, first_payload};
-ghost use Rattle.rws_wire.specs.Gathering.{Gathers, IsSpelled};
+ghost use Rattle.std.specs.Prelude.{◌≡◌, ◌+◌, ◌<◌, ◌≤◌, ◌^◌, drop, length, take, IfOk, IfSome};
+ghost use Rattle.rws_wire.specs.Payloads.{first_payload};
+ghost use Rattle.rws_wire.specs.Gathering.{Gathers, IsSpelled, is_decided};
 
 use crate::packet::{HEADER, Packet, packet_of};
 use crate::{Payload, Text, WireFault};
@@ -20,7 +20,7 @@ fn split_packet(bytes: &[u8], size: usize) -> (&[u8], &[u8])
 // payload that comes in many pieces costs little.
 pub fn is_ready(bytes: &[u8], first: u8, limit: u64) -> bool
     requires { length bytes.now < 2 ^ 63 }
-    ensures { result ≡ false → first_payload limit first bytes.now ≡ Nothing }
+    ensures { result ≡ is_decided (first_payload limit first bytes.now) }
 {
     let mut number = first;
     let mut before = 0;
@@ -28,7 +28,8 @@ pub fn is_ready(bytes: &[u8], first: u8, limit: u64) -> bool
     'packets: loop {
         match packet_of(rest, number, before, limit) {
             Packet::Partial => return false,
-            Packet::Bad(_) | Packet::Last(_) => return true,
+            Packet::Bad(_) => return true,
+            Packet::Last(_) => return true,
             Packet::More(size) => {
                 before += size;
                 rest = split_packet(rest, size).1;

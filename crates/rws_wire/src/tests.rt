@@ -73,6 +73,26 @@ fn full_packet_has_an_empty_one_behind(rt: HostRuntime) -> Result<(), Fail> {
     Ok(())
 }
 
+// Linear in the bytes: a reader that copied what it holds at each piece would move 128 GiB here.
+#[test]
+fn large_payload_in_small_pieces(rt: HostRuntime) -> Result<(), Fail> {
+    let payload = filled(rt.alloc(), 2 * packet::FULL_PACKET + 5)?;
+    let mut stream = Vec::new(rt.alloc());
+    let next = frame(&payload, 254, &mut stream)?;
+    let mut deframer = Deframer::new(rt.alloc(), 0x400_0000);
+    let mut read = None;
+    for piece in stream.chunks(4096) {
+        assert_eq!(rt; read, None);
+        deframer.feed(piece)?;
+        if let Some(payload) = deframer.next_payload(254)? {
+            read = Some((payload.bytes.len(), payload.next));
+        }
+    }
+    assert_eq!(rt; read, Some((payload.len(), next)));
+    assert_eq!(rt; next, 1);
+    Ok(())
+}
+
 #[test]
 fn texts(rt: HostRuntime) -> Result<(), Fail> {
     let mut text = Text::from_slice(rt.alloc(), b"ab")?;
