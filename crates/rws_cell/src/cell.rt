@@ -53,7 +53,7 @@ impl PoolCell {
         ensures cell { IfOk result (λ made. made.1.cell ≡ made.0.cell) }
         ensures view { IfOk result (λ made. made.1.view ≡ first_view) }
     {
-        let (cell, seat) = seat::open(alloc, domain)?;
+        let (cell, seat) = seat::open(alloc)?;
         Ok((PoolCell { domain, cell }, Pass { seat }))
     }
 

@@ -15,11 +15,11 @@ use std::alloc::{AllocError, Global};
 use std::marker::Brand;
 use std::sync::Wait;
 
-/// A cell with new words, and its first seat.
-pub fn open(alloc: Global, domain: u32) -> Result<(Cell, Seat), AllocError>
+/// A cell with new words, and its first seat. The domain isn't among the words, so any one serves here.
+pub fn open(alloc: Global) -> Result<(Cell, Seat), AllocError>
     ensures { IfOk result (λ r. (r.1.table_id ≡ r.0.table.shared.table_id) × (cell_view r.1 ≡ first_view)) }
 {
-    Cell::ruled(alloc, pack(&PoolWords::new(domain)))
+    Cell::ruled(alloc, pack(&PoolWords::new(0)))
 }
 
 /// Takes the pool event Route, and answers the words there.

@@ -6,4 +6,4 @@ use Rattle.rws_cell.proofs.Moves.{begins}
 use Rattle.rws_cell.proofs.seat.open.Goals as goal
 
 pub ruled-requires : goal.ruled-requires
-ruled-requires c = (search rules, (search rules, subst (λ (ws : List ℕ). Kept ws (first_view ∷ [])) (sym (c.pack.ensures.words ∙ ap packed_words c.new.ensures)) (begins c.args.domain)))
+ruled-requires c = (search rules, (search rules, subst (λ (ws : List ℕ). Kept ws (first_view ∷ [])) (sym (c.pack.ensures.words ∙ ap packed_words c.new.ensures)) (begins 0)))
