@@ -52,10 +52,10 @@ pub fn bad_line(alloc: Global, number: u64) -> Result<Text, AllocError>
 }
 
 /// The line that says how the program is called.
-pub fn usage_line(alloc: Global) -> Result<Text, AllocError>
-    ensures { IfOk result (λ text. text ≡ usage_line) }
+pub fn usage_line() -> &'static [u8]
+    ensures { result.now ≡ usage_line }
 {
-    Text::from_slice(alloc, USAGE.as_bytes())
+    USAGE.as_bytes()
 }
 
 fn print_bytes(alloc: Global, bytes: &Text) -> Result<String, AllocError>

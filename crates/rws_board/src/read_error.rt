@@ -3,8 +3,6 @@ ghost use Rattle.std.specs.Prelude.{◌≡◌};
 
 use crate::Failed;
 use std::alloc::AllocError;
-use std::error::Error;
-use std::fmt;
 
 /// Why an event couldn't be read.
 #[derive(Clone, Copy, Debug, PartialEq, Eq)]
@@ -33,14 +31,3 @@ impl From<AllocError> for ReadError {
         ReadError::OutOfMemory
     }
 }
-
-impl fmt::Display for ReadError {
-    fn fmt<W: fmt::Write>(&self, f: &mut fmt::Formatter<W>) -> fmt::Result {
-        match self {
-            ReadError::Failed => write!(f, "the input can't be read"),
-            ReadError::OutOfMemory => write!(f, "out of memory"),
-        }
-    }
-}
-
-impl Error for ReadError {}

@@ -136,10 +136,6 @@ fn last_lines_are_printed(rt: HostRuntime) -> Result<(), Fail> {
     let alloc = rt.alloc();
     assert_eq!(rt; end_line(alloc, 0)?.as_slice(), b"end 0\n".as_slice());
     assert_eq!(rt; bad_line(alloc, 2)?.as_slice(), b"bad line 2\n".as_slice());
-    assert!(rt;
-        usage_line(alloc)?
-            .as_slice()
-            .starts_with(b"usage: rwsplit trace SETTINGS | ")
-    );
+    assert!(rt; usage_line().starts_with(b"usage: rwsplit trace SETTINGS | "));
     Ok(())
 }

@@ -76,7 +76,6 @@ pub record AnswersTrace (left taken taken' : Option (List ℕ)) (at_end input_fa
 pub data Refuses (printed : List ℕ) (output_failed : Type 0) (status : ℕ) : Type 0 where
   told : status ≡ 2 → printed ≡ usage_line → Refuses printed output_failed status
   unwritten : status ≡ 5 → output_failed → IsFront printed usage_line → Refuses printed output_failed status
-  out_of_memory : status ≡ 9 → printed ≡ [] → Refuses printed output_failed status
 
 pub record AnswersUsage (taken taken' : Option (List ℕ)) (output_failed : Type 0) (status : ℕ) : Type 0 where
   pub printed : List ℕ

@@ -26,7 +26,7 @@ pub fn run_here<I: Source, O: Sink>(
         → AnswersUsage (O.taken out.old) (O.taken out.new) (Rises (O.faults out.old) (O.faults out.new)) result }
 {
     if !asks_for_trace(words) {
-        return refuse(alloc, out);
+        return refuse(out);
     }
     match trace(alloc, input, out) {
         Ok(status) => status,
@@ -56,13 +56,10 @@ fn trace<I: Source, O: Sink>(alloc: Global, input: &mut I, out: &mut O) -> Resul
 }
 
 // Says how the program is called.
-fn refuse<O: Sink>(alloc: Global, out: &mut O) -> u8
+fn refuse<O: Sink>(out: &mut O) -> u8
     ensures { AnswersUsage (O.taken out.old) (O.taken out.new) (Rises (O.faults out.old) (O.faults out.new)) result }
 {
-    let Ok(line) = usage_line(alloc) else {
-        return 9;
-    };
-    match out.put(line.as_slice()) {
+    match out.put(usage_line()) {
         Ok(()) => 2,
         Err(Failed) => 5,
     }
