@@ -3,3 +3,4 @@ pub mod Ends
 pub mod Grammar
 pub mod Piece
 pub mod Lexed
+pub mod Spans

@@ -8,7 +8,7 @@ mod piece;
 mod token;
 mod tokens;
 
-pub use law::{comments_end_by_grammar, enclosed_ends_by_grammar};
+pub use law::{comments_end_by_grammar, enclosed_ends_by_grammar, faults_lie_behind, spans_rise};
 pub use token::{Token, TokenKind, Unclosed};
 pub use tokens::Tokens;
 
