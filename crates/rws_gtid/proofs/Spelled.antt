@@ -171,6 +171,12 @@ ends_as : (made gtid : Gtid) (bytes : List ℕ) (at : ℕ) → cond (length byte
 ends_as made gtid [] at e = (done_is made gtid e, refl)
 ends_as made gtid (b ∷ bs) at e = absurd (let none = rw eqb-suc-zero at e in cc)
 
+narrow_fits : 2 ^ 32 - 1 < 2 ^ 64
+narrow_fits = omega arith
+
+wide_fits : 2 ^ 64 - 1 < 2 ^ 64
+wide_fits = omega arith
+
 pub gtid_takes : (text : Rest) (gtid : Gtid) → gtid_at text ≡ Ok gtid → IsInRange gtid × (text.1 ≡ gtid_text gtid)
 unfolding gtid_at
 gtid_takes text gtid e =
@@ -180,9 +186,9 @@ gtid_takes text gtid e =
     let second = bind_ok _ _ gtid server.2 in
     let sequence = bind_ok _ _ gtid second.2 in
     let ended = ends_as _ gtid _ _ sequence.2 in
-    let takes_domain = number_takes (2 ^ 32 - 1) text domain.0.0 domain.0.1 (omega arith) domain.1 in
-    let takes_server = number_takes (2 ^ 32 - 1) first.0 server.0.0 server.0.1 (omega arith) server.1 in
-    let takes_sequence = number_takes (2 ^ 64 - 1) second.0 sequence.0.0 sequence.0.1 (omega arith) sequence.1 in
+    let takes_domain = number_takes (2 ^ 32 - 1) text domain.0.0 domain.0.1 narrow_fits domain.1 in
+    let takes_server = number_takes (2 ^ 32 - 1) first.0 server.0.0 server.0.1 narrow_fits server.1 in
+    let takes_sequence = number_takes (2 ^ 64 - 1) second.0 sequence.0.0 sequence.0.1 wide_fits sequence.1 in
     subst (λ (g : Gtid). IsInRange g × (text.1 ≡ gtid_text g)) ended.0 (
       record { domain = omega (arith, takes_domain.small); server = omega (arith, takes_server.small); sequence = omega (arith, takes_sequence.small) },
       takes_domain.text ∙ ap (λ (r : List ℕ). decimal domain.0.0 ++ r) (dash_takes _ _ first.0 first.1 ∙ ap (λ (r : List ℕ). 45 ∷ r) (takes_server.text

@@ -5,6 +5,7 @@ use Rattle.std.specs.Option.{option_map}
 use Rattle.std.specs.Result.{result_ok}
 use Rattle.std.proofs.lemmas.List.{length-drop}
 use Rattle.rws_wire.specs.Numbers.{number_of}
+use Rattle.rws_msgs.specs.declared.eof_msg.EofMsg.{EofMsg}
 use Rattle.rws_msgs.specs.declared.fault.MsgFault.{MsgFault}
 use Rattle.rws_msgs.specs.declared.fault.MsgFault.TheVariants.{Short, BadTag}
 use Rattle.rws_msgs.specs.Reading.{◌>>=◌}
@@ -66,6 +67,11 @@ unfolding ended
 ended_length value x [] e = refl
 ended_length value x (b ∷ bs) e = absurd cc
 
+four_left : (rest : List ℕ) (warnings status : ℕ × List ℕ) (eof read : EofMsg) → number_at 2 rest ≡ Ok warnings → number_at 2 warnings.1 ≡ Ok status → ended eof status.1 ≡ Ok read
+    → length rest ≡ 4
+four_left rest warnings status eof read first second last =
+    omega (arith, number_length 2 rest warnings first, number_length 2 warnings.1 status second, ended_length eof read status.1 last)
+
 pub eof_begins : (p : List ℕ) (status : ℕ) → eof_status p ≡ Some status → (rest : List ℕ) × (p ≡ 0xFE ∷ rest) × (length rest ≡ 4)
 unfolding eof_status eof_at
 eof_begins p status e =
@@ -73,7 +79,7 @@ eof_begins p status e =
     let first = fixed_first 0xFE p _ read.0 read.1 in
     let warnings = bind_ok _ _ read.0 first.2 in
     let last = bind_ok _ _ read.0 warnings.2 in
-    (first.0, first.1, omega (arith, number_length 2 first.0 warnings.0 warnings.1, number_length 2 warnings.0.1 last.0 last.1, ended_length _ _ _ last.2))
+    (first.0, first.1, four_left first.0 warnings.0 last.0 _ _ warnings.1 last.1 last.2)
 
 pub prepared_begins : (p : List ℕ) (counts : ℕ × ℕ) → prepared_counts p ≡ Some counts → Begins_by 0x00 p
 unfolding prepared_counts prepare_ok_at
