@@ -11,8 +11,8 @@ use rws_board::{Failed, Sink, Source, usage_line};
 use std::alloc::Global;
 
 /// Runs the program on the words of its command line, without the program's name, and gives its exit status. The words
-/// `trace -` run a worker over the trace that the input holds. Each line of the trace is read, and all that comes of
-/// it is put, before the next one is read.
+/// `trace -` run a worker over the trace that the input holds; all other words are answered by the usage line. README.md
+/// lists what each status means.
 pub fn run_here<I: Source, O: Sink>(
     alloc: Global,
     words: &[String],
