@@ -1,6 +1,6 @@
 -- Writing a payload packet by packet.
 use Rattle.std.proofs.Common.{◌≡◌, ℕ, suc, ◌+◌, ◌-◌, ◌/◌, ◌%◌, ◌^◌, ◌<◌, ◌≤◌, List, ◌++◌, length, take, drop, refl, sym, ap, ◌∙◌, append_assoc, arith, add-one}
-use Rattle.std.proofs.lemmas.List.{take-append-le, take-take, take_all, length-drop, length-take}
+use Rattle.std.proofs.lemmas.List.{take-append-le, take_all, length-drop, length-take}
 use Rattle.std.proofs.Math.Nat.{div-eq_of_lt, div-eq-sub-div}
 use Rattle.rws_wire.specs.Packets.{full_packet, packet, packets, next_number, spelling, number_behind}
 use Rattle.rws_wire.proofs.PayloadLemmas.{full_packet-pos, full_packet-lt, number_zero, number_suc}
@@ -42,12 +42,6 @@ writes_last first payload out number rest now short w =
       ap (λ (full : ℕ). now ++ packets full number rest) (sym none) ∙ w.spelled,
       sym (number_zero number) ∙ ap (λ (full : ℕ). (number + full + 1) % 256) (sym none) ∙ w.counted,
     )
-
--- what stood there stands there still where a write broke off behind it
-pub still_kept : (out now later : List ℕ) → take (length out) now ≡ out → take (length now) later ≡ now → take (length out) later ≡ out
-still_kept out now later kept stands =
-    let fits = kept_length out now kept in
-    sym (take-take (length out) (length now) later fits) ∙ ap (take (length out)) stands ∙ kept
 
 pub chunk_small : (payload chunk : List ℕ) → chunk ≡ take full_packet payload → length chunk < 2 ^ 24
 chunk_small payload chunk e = rw e (omega (arith, length-take full_packet payload, full_packet-lt))

@@ -1,14 +1,14 @@
 -- Reading a payload packet by packet.
-use Rattle.std.proofs.Common.{◌≡◌, ℕ, true, false, ◌+◌, ◌<◌, ◌≤◌, List, [], ◌++◌, length, take, drop, Err, refl, sym, ap, ◌∙◌, arith}
+use Rattle.std.proofs.Common.{◌≡◌, ℕ, ◌+◌, ◌≤◌, List, [], ◌++◌, length, take, drop, refl, sym, ap, ◌∙◌, arith}
 use Rattle.std.proofs.lemmas.List.{length-append, length-drop, length-take}
 use Rattle.rws_wire.specs.declared.fault.WireFault.{WireFault}
-use Rattle.rws_wire.specs.declared.fault.WireFault.TheVariants.{OutOfOrder, TooLarge, OutOfMemory}
 use Rattle.rws_wire.specs.declared.packet.Packet.{Packet}
 use Rattle.rws_wire.specs.declared.packet.Packet.TheVariants.{Partial, Bad, More, Last}
 use Rattle.rws_wire.specs.Numbers.{AreBytes}
 use Rattle.rws_wire.specs.Packets.{next_number, number_behind, spelling}
 use Rattle.rws_wire.specs.Payloads.{packet_of, Beginning, Nothing, Whole, Faulty, payload_behind, first_payload}
-use Rattle.rws_wire.specs.Gathering.{Gathers, is_decided}
+use Rattle.rws_wire.specs.Gathering.{look_of}
+use Rattle.rws_wire.specs.declared.gathering.Look.TheVariants as looks
 use Rattle.rws_wire.proofs.PayloadLemmas.{behind_partial, behind_bad, behind_more, behind_last, first_payload-is, first_payload_spelled, more_fits}
 
 -- what is read behind the bytes so far is what all bytes begin with
@@ -50,9 +50,6 @@ reads_more limit first bytes number before rest size r e =
       same = sym (behind_more limit number before rest size e) ∙ r.same;
     }
 
-pub rest_shorter : (limit number before : ℕ) (rest : List ℕ) (size : ℕ) → packet_of limit number before rest ≡ More size → length (drop size (drop 4 rest)) < length rest
-rest_shorter limit number before rest size e = omega (arith, more_fits limit number before rest size e, length-drop size (drop 4 rest), length-drop 4 rest)
-
 -- the same where the bytes so far aren't kept, only their number
 pub record Looks (limit first : ℕ) (bytes : List ℕ) (number before : ℕ) (rest : List ℕ) : Type 0 where
   pub seen : List ℕ
@@ -68,19 +65,21 @@ looks_partial limit first bytes number before rest l e =
     reads_partial limit first bytes number l.seen rest l.reads (ap (λ (n : ℕ). packet_of limit number n rest) l.long ∙ e)
 
 pub looks_bad : (limit first : ℕ) (bytes : List ℕ) (number before : ℕ) (rest : List ℕ) (fault : WireFault) → Looks limit first bytes number before rest
-    → packet_of limit number before rest ≡ Bad fault → is_decided (first_payload limit first bytes) ≡ true
+    → packet_of limit number before rest ≡ Bad fault → look_of (first_payload limit first bytes) ≡ looks.Bad fault
 looks_bad limit first bytes number before rest fault l e =
-    ap is_decided (reads_bad limit first bytes number l.seen rest fault l.reads (ap (λ (n : ℕ). packet_of limit number n rest) l.long ∙ e))
+    ap look_of (reads_bad limit first bytes number l.seen rest fault l.reads (ap (λ (n : ℕ). packet_of limit number n rest) l.long ∙ e))
 
 pub looks_last : (limit first : ℕ) (bytes : List ℕ) (number before : ℕ) (rest : List ℕ) (size : ℕ) → Looks limit first bytes number before rest
-    → packet_of limit number before rest ≡ Last size → is_decided (first_payload limit first bytes) ≡ true
+    → packet_of limit number before rest ≡ Last size → look_of (first_payload limit first bytes) ≡ looks.Whole
 looks_last limit first bytes number before rest size l e =
-    ap is_decided (reads_last limit first bytes number l.seen rest size l.reads (ap (λ (n : ℕ). packet_of limit number n rest) l.long ∙ e))
+    ap look_of (reads_last limit first bytes number l.seen rest size l.reads (ap (λ (n : ℕ). packet_of limit number n rest) l.long ∙ e))
 
-pub undecided : (beginning : Beginning) → false ≡ is_decided beginning → beginning ≡ Nothing
-undecided Nothing e = refl
-undecided (Whole payload next rest) e = absurd cc
-undecided (Faulty fault) e = absurd cc
+-- what is whole is neither partial nor faulty
+pub whole_not_partial : (beginning : Beginning) → look_of beginning ≡ looks.Whole → beginning ≡ Nothing → ⊥
+whole_not_partial beginning whole e = let same = sym (ap look_of e) ∙ whole in cc
+
+pub whole_not_bad : (beginning : Beginning) (fault : WireFault) → look_of beginning ≡ looks.Whole → beginning ≡ Faulty fault → ⊥
+whole_not_bad beginning fault whole e = let same = sym (ap look_of e) ∙ whole in cc
 
 pub looks_more : (limit first : ℕ) (bytes : List ℕ) (number before : ℕ) (rest : List ℕ) (size : ℕ) → Looks limit first bytes number before rest
     → packet_of limit number before rest ≡ More size
@@ -94,12 +93,6 @@ looks_more limit first bytes number before rest size l e =
       long = length-append l.seen chunk ∙ omega (arith, l.long);
       reads = reads_more limit first bytes number l.seen rest size l.reads (ap (λ (n : ℕ). packet_of limit number n rest) l.long ∙ e);
     }
-
--- a fault that was read is given
-pub gathers_bad : (fault : WireFault) (beginning : Beginning) → beginning ≡ Faulty fault → Gathers (Err fault) beginning
-gathers_bad (OutOfOrder want got) beginning e = e
-gathers_bad (TooLarge length) beginning e = e
-gathers_bad OutOfMemory beginning e = tt
 
 -- an answer of `packet_of` at the number of bytes so far
 pub at_length : (limit number n : ℕ) (before rest : List ℕ) (p : Packet) → n ≡ length before → p ≡ packet_of limit number n rest → packet_of limit number (length before) rest ≡ p

@@ -233,16 +233,6 @@ unfolding first_payload spelling number_behind
 first_payload-spelling limit number payload rest within =
     packets_read (length payload / full_packet) limit number [] payload rest refl (omega arith)
 
--- a short payload is one packet
-pub spelling-short : (number : ℕ) (payload : List ℕ) → length payload < full_packet → spelling number payload ≡ packet number payload
-unfolding spelling
-spelling-short number payload short = ap (λ (full : ℕ). packets full number payload) (div-eq_of_lt {n = length payload} {m = full_packet} short)
-
-pub number_behind-short : (number : ℕ) (payload : List ℕ) → length payload < full_packet → number_behind number payload ≡ next_number number
-unfolding number_behind
-number_behind-short number payload short =
-    ap (λ (full : ℕ). (number + full + 1) % 256) (div-eq_of_lt {n = length payload} {m = full_packet} short) ∙ number_zero number
-
 -- ---- a payload that was read was spelled
 
 pub full_packet-is : full_packet + 1 ≡ 2 ^ 24

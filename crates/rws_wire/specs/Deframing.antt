@@ -19,13 +19,19 @@ unless_stopped None beginning = beginning
 abbrev pub next_of : Deframing → ℕ → Beginning
 next_of d first = unless_stopped d.stopped (first_payload d.limit first d.held)
 
+-- bytes begin with a whole payload
+abbrev pub IsWhole : Beginning → Type 0
+IsWhole (Whole payload next rest) = Unit {0}
+IsWhole Nothing = ⊥
+IsWhole (Faulty fault) = ⊥
+
 -- The answer of `next_payload`, and what stands after it. A payload's bytes are held no longer; a fault stays;
--- nothing else changes.
+-- nothing else changes. Memory is wanted for a whole payload alone.
 abbrev pub Answers : Deframing → ℕ → Result (Option Payload) WireFault → Deframing → Type 0
 Answers old first (Ok (Some payload)) new =
     (next_of old first ≡ Whole payload.bytes payload.next new.held) × (new ≡ record old { held = new.held })
 Answers old first (Ok None) new = (next_of old first ≡ Nothing) × (new ≡ old)
-Answers old first (Err OutOfMemory) new = new ≡ old
+Answers old first (Err OutOfMemory) new = IsWhole (next_of old first) × (new ≡ old)
 Answers old first (Err (OutOfOrder want got)) new =
     (next_of old first ≡ Faulty (OutOfOrder want got)) × (new ≡ record old { stopped = Some (OutOfOrder want got) })
 Answers old first (Err (TooLarge length)) new =

@@ -1,4 +1,5 @@
 pub mod Numbers
+pub mod Reading
 pub mod Lenenc
 pub mod LenencRead
 pub mod Packets

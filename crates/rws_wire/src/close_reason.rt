@@ -1,11 +1,11 @@
-// Why the proxy closes a session without an error packet of its own being the last word on it.
+// Why the proxy closes a session.
 
 /// Why a session was closed. Numbers that decided it are kept beside the reason.
 #[derive(Clone, Copy, Debug, PartialEq, Eq)]
 pub enum CloseReason {
     /// The client sent COM_QUIT.
     Quit,
-    /// The client's handshake response was malformed, or asked for what isn't offered.
+    /// The client's handshake response was malformed, lacks CLIENT_PROTOCOL_41 or CLIENT_SECURE_CONNECTION, or asks for TLS.
     Handshake,
     /// The user is unknown, or the answer to the scramble doesn't check.
     Access,
@@ -16,7 +16,7 @@ pub enum CloseReason {
         want: u8,
         got: u8,
     },
-    /// The client announced a command of `length` bytes, above the limit.
+    /// A command of the client, or the long data of one of its statements, comes to `length` bytes, above the limit.
     TooLarge {
         length: u64,
     },

@@ -3,17 +3,17 @@ ghost use Rattle.std.specs.Prelude.{◌≡◌, ◌++◌, List, ℕ, [], length, 
 ghost use Rattle.rws_wire.specs.Deframing.{Answers};
 ghost use Rattle.rws_wire.specs.Gathering.{IsSpelled};
 
-use crate::gathering::{gather, is_ready};
+use crate::gathering::{Look, gather, look_at};
 use crate::{Payload, WireFault};
 use std::alloc::{AllocError, Global};
 use std::marker::Model;
 
 /// Takes the bytes of a stream in pieces and gives its payloads.
 ///
-/// A piece is copied once into a buffer, and each payload once out of it when it is whole. What was handed out
-/// is cut off the buffer when it is more than what is left, so the moves cost no more than the bytes that were
-/// fed; asking for a payload that isn't whole reads a header for each 16 MiB of it. So the cost grows as the
-/// bytes do, however they are cut into pieces. The buffer keeps the room of the most bytes that it held.
+/// A piece is appended to a buffer, and a payload is copied out of it once it is whole. What was handed out is cut off
+/// the buffer when it is more than what is left, so the moves cost no more than the bytes that were fed; asking for a
+/// payload that isn't whole reads a header for each 16 MiB of it. So the cost grows as the bytes do, however they are
+/// cut into pieces. The buffer keeps the room of the most bytes that it held.
 #[derive(Debug, Drop)]
 pub struct Deframer {
     alloc: Global,
@@ -24,14 +24,15 @@ pub struct Deframer {
 }
 
 impl Model for Deframer {
-    ghost use Rattle.std.specs.Prelude.{◌≤◌, drop, length};
+    ghost use Rattle.std.specs.Prelude.{◌≤◌, ◌≢◌, Some, drop, length};
+    ghost use Rattle.rws_wire.specs.declared.fault.WireFault.TheVariants.{OutOfMemory};
     ghost use Rattle.rws_wire.specs.Deframing.{Deframing};
 
     ghost Value = { Deframing };
 
     ghost view = { λ d. record { limit = d.limit; held = drop d.start d.bytes.items; stopped = d.stopped } };
 
-    ghost invariant = { λ d. d.start ≤ length d.bytes.items };
+    ghost invariant = { λ d. (d.start ≤ length d.bytes.items) × (d.stopped ≢ Some OutOfMemory) };
 }
 
 impl Deframer {
@@ -66,7 +67,8 @@ impl Deframer {
 
     /// The payload that the held bytes begin with, if its first packet is to have the number `first`; None where
     /// they begin with no whole payload and no fault. A fault shows at the fourth byte of a header: a wrong number
-    /// first, then a length that lifts the payload above the limit. After a fault every call answers it again.
+    /// first, then a length that lifts the payload above the limit. After a fault every call answers it again, whatever
+    /// its number. Only a whole payload takes memory; where there is none the payload stays, and can be asked for again.
     pub fn next_payload(&mut self, first: u8) -> Result<Option<Payload>, WireFault>
         ensures answer { Answers self.old first result self.new }
 
@@ -85,19 +87,16 @@ impl Deframer {
         ensures spelled { IfOk result (λ found. IfSome found (IsSpelled self.old.held first self.new.held)) }
     {
         let held = &self.bytes[self.start..];
-        if !is_ready(held, first, self.limit) {
-            return Ok(None);
-        }
-        match gather(self.alloc, held, first, self.limit) {
-            Ok(None) => Ok(None),
-            Ok(Some((payload, behind))) => {
-                self.start = self.bytes.len() - behind.len();
-                Ok(Some(payload))
-            }
-            Err(WireFault::OutOfMemory) => Err(WireFault::OutOfMemory),
-            Err(fault) => {
+        match look_at(held, first, self.limit) {
+            Look::Partial => Ok(None),
+            Look::Bad(fault) => {
                 self.stopped = Some(fault);
                 Err(fault)
+            }
+            Look::Whole => {
+                let (payload, behind) = gather(self.alloc, held, first, self.limit)?;
+                self.start = self.bytes.len() - behind.len();
+                Ok(Some(payload))
             }
         }
     }

@@ -15,7 +15,8 @@ pub enum DropCause {
     Plugin,
     /// The server refused the login, or the first statement after it, with the error `code`.
     Login { code: u16 },
-    /// The server answered a session command otherwise than the server whose answer the client got.
+    /// The server answered by an error what another server had answered without one to the client, or a prepare with
+    /// other numbers of columns or parameters.
     SessionDiffers,
     /// The answer to a question for the server's position was no position.
     Probe,

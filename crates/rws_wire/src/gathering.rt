@@ -1,11 +1,12 @@
 // Payloads read from packets.
-ghost use Rattle.std.specs.Prelude.{◌≡◌, ◌+◌, ◌<◌, ◌≤◌, ◌^◌, drop, length, take, IfOk, IfSome};
-ghost use Rattle.rws_wire.specs.Payloads.{first_payload};
-ghost use Rattle.rws_wire.specs.Gathering.{Gathers, IsSpelled, is_decided};
+ghost use Rattle.std.specs.Prelude.{◌≡◌, ◌+◌, ◌<◌, ◌≤◌, ◌^◌, drop, length, take, IfOk};
+ghost use Rattle.rws_wire.specs.Payloads.{Whole, first_payload};
+ghost use Rattle.rws_wire.specs.Gathering.{IsSpelled, look_of};
+ghost use Rattle.rws_wire.specs.declared.gathering.Look as Look;
 
-use crate::packet::{HEADER, Packet, packet_of};
+use crate::packet::{HEADER_LEN, Packet, packet_of};
 use crate::{Payload, Text, WireFault};
-use std::alloc::Global;
+use std::alloc::{AllocError, Global};
 
 // The bytes of a packet at the front, behind its header, and the bytes behind the packet.
 fn split_packet(bytes: &[u8], size: usize) -> (&[u8], &[u8])
@@ -13,23 +14,34 @@ fn split_packet(bytes: &[u8], size: usize) -> (&[u8], &[u8])
     ensures chunk { result.0.now ≡ take size (drop 4 bytes.now) }
     ensures behind { result.1.now ≡ drop size (drop 4 bytes.now) }
 {
-    bytes[HEADER..].split_at(size)
+    bytes[HEADER_LEN..].split_at(size)
 }
 
-// Whether the bytes begin with a whole payload or a fault. It reads headers alone, so that asking again for a
-// payload that comes in many pieces costs little.
-pub fn is_ready(bytes: &[u8], first: u8, limit: u64) -> bool
+/// What bytes begin with, as far as headers tell.
+#[derive(Clone, Copy)]
+pub enum Look {
+    /// No whole payload as yet, and no fault.
+    Partial,
+    /// A whole payload.
+    Whole,
+    /// A fault.
+    Bad(WireFault),
+}
+
+// What the bytes begin with. It reads headers alone, so that asking again for a payload that comes in many pieces
+// costs little, and that nothing is copied before the payload is whole.
+pub fn look_at(bytes: &[u8], first: u8, limit: u64) -> Look
     requires { length bytes.now < 2 ^ 63 }
-    ensures { result ≡ is_decided (first_payload limit first bytes.now) }
+    ensures { result ≡ look_of (first_payload limit first bytes.now) }
 {
     let mut number = first;
     let mut before = 0;
     let mut rest = bytes;
     'packets: loop {
         match packet_of(rest, number, before, limit) {
-            Packet::Partial => return false,
-            Packet::Bad(_) => return true,
-            Packet::Last(_) => return true,
+            Packet::Partial => return Look::Partial,
+            Packet::Bad(fault) => return Look::Bad(fault),
+            Packet::Last(_) => return Look::Whole,
             Packet::More(size) => {
                 before += size;
                 rest = split_packet(rest, size).1;
@@ -39,24 +51,25 @@ pub fn is_ready(bytes: &[u8], first: u8, limit: u64) -> bool
     }
 }
 
-// The payload that the bytes begin with, and the bytes behind it.
+// The whole payload that the bytes begin with, and the bytes behind it.
 pub fn gather(
     alloc: Global,
     bytes: &[u8],
     first: u8,
     limit: u64,
-) -> Result<Option<(Payload, &[u8])>, WireFault>
-    requires { length bytes.now < 2 ^ 63 }
-    ensures gathers { Gathers result (first_payload limit first bytes.now) }
-    ensures spelled { IfOk result (λ found. IfSome found (λ read. IsSpelled bytes.now first read.1.now read.0)) }
+) -> Result<(Payload, &[u8]), AllocError>
+    requires size { length bytes.now < 2 ^ 63 }
+    requires whole { look_of (first_payload limit first bytes.now) ≡ Look.Whole }
+    ensures gathers { IfOk result (λ read. first_payload limit first bytes.now ≡ Whole read.0.bytes read.0.next read.1.now) }
+    ensures spelled { IfOk result (λ read. IsSpelled bytes.now first read.1.now read.0) }
 {
     let mut number = first;
     let mut payload = Vec::new(alloc);
     let mut rest = bytes;
     'packets: loop {
         match packet_of(rest, number, payload.len(), limit) {
-            Packet::Partial => return Ok(None),
-            Packet::Bad(fault) => return Err(fault),
+            Packet::Partial => unreachable!(),
+            Packet::Bad(_) => unreachable!(),
             Packet::Last(size) => {
                 let (chunk, behind) = split_packet(rest, size);
                 payload.extend_from_slice(chunk)?;
@@ -64,7 +77,7 @@ pub fn gather(
                     bytes: Text::new(payload),
                     next: number.wrapping_add(1),
                 };
-                return Ok(Some((payload, behind)));
+                return Ok((payload, behind));
             }
             Packet::More(size) => {
                 let (chunk, behind) = split_packet(rest, size);

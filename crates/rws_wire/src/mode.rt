@@ -4,7 +4,10 @@
 /// seen (MaxScale's `causal_reads` at `none`, `local` and `global`).
 #[derive(Clone, Copy, Debug, PartialEq, Eq)]
 pub enum Mode {
+    /// None: a read may show any earlier state.
     Nothing,
+    /// Those of its own session.
     Local,
+    /// All that the proxy has seen.
     Global,
 }

@@ -8,7 +8,7 @@ use crate::WireFault;
 pub const FULL_PACKET: usize = 0xFF_FFFF;
 
 // The length of a header: three bytes of length, one of number.
-pub const HEADER: usize = 4;
+pub const HEADER_LEN: usize = 4;
 
 /// What bytes begin with, read as a packet of a payload.
 #[derive(Clone, Copy)]

@@ -1,22 +1,22 @@
 use Rattle.std.proofs.Common.{◌≡◌, length, arith}
 use Rattle.rws_wire.specs.declared.packet.Packet.TheVariants.{Partial, Bad, More, Last}
-use Rattle.rws_wire.proofs.GatheringLemmas.{at_length, gathers_bad, reads_none, reads_partial, reads_bad, reads_last, last_spelled, reads_more}
+use Rattle.rws_wire.proofs.GatheringLemmas.{at_length, whole_not_partial, whole_not_bad, reads_none, reads_partial, reads_bad, reads_last, last_spelled, reads_more}
 use Rattle.rws_wire.proofs.gathering.gather.Goals as goal
 
 pub packets-init : goal.packets-init
 packets-init c = reads_none c.args.limit c.args.first c.args.bytes.now c.new-payload.result.items c.new-payload.ensures.items
 
-pub returns-in-Partial-clause-gathers : goal.returns-in-Partial-clause-gathers
-returns-in-Partial-clause-gathers c =
+pub unreachable-requires : goal.unreachable-requires
+unreachable-requires c =
     let same : c.len.result ≡ length c.packets.payload.items = omega arith in
     let read = at_length c.args.limit c.packets.number c.len.result c.packets.payload.items c.packets.rest.now Partial same c.in-Partial.ensures in
-    reads_partial c.args.limit c.args.first c.args.bytes.now c.packets.number c.packets.payload.items c.packets.rest.now c.packets.invariant read
+    whole_not_partial _ c.requires.whole (reads_partial c.args.limit c.args.first c.args.bytes.now c.packets.number c.packets.payload.items c.packets.rest.now c.packets.invariant read)
 
-pub returns-in-Bad-clause-gathers : goal.returns-in-Bad-clause-gathers
-returns-in-Bad-clause-gathers c =
+pub unreachable-requires-in-Bad : goal.unreachable-requires-in-Bad
+unreachable-requires-in-Bad c =
     let same : c.len.result ≡ length c.packets.payload.items = omega arith in
-    let read = at_length c.args.limit c.packets.number c.len.result c.packets.payload.items c.packets.rest.now (Bad c.in-Bad.fault) same c.in-Bad.ensures in
-    gathers_bad c.in-Bad.fault _ (reads_bad c.args.limit c.args.first c.args.bytes.now c.packets.number c.packets.payload.items c.packets.rest.now c.in-Bad.fault c.packets.invariant read)
+    let read = at_length c.args.limit c.packets.number c.len.result c.packets.payload.items c.packets.rest.now (Bad c.in-Bad.field-0) same c.in-Bad.ensures in
+    whole_not_bad _ _ c.requires.whole (reads_bad c.args.limit c.args.first c.args.bytes.now c.packets.number c.packets.payload.items c.packets.rest.now c.in-Bad.field-0 c.packets.invariant read)
 
 pub returns-in-Last-clause-gathers : goal.returns-in-Last-clause-gathers
 returns-in-Last-clause-gathers c =

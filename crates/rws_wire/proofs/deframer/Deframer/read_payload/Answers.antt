@@ -1,33 +1,43 @@
 use Rattle.std.proofs.Common.{◌≡◌, length, refl, ap, arith}
 use Rattle.rws_wire.specs.Deframing.{Deframing}
 use Rattle.rws_wire.specs.Packets.{spelling}
-use Rattle.rws_wire.proofs.DeframerLemmas.{is_behind, next_unstopped}
+use Rattle.rws_wire.proofs.DeframerLemmas.{is_behind, next_unstopped, fault_of_look, no_memory_fault, fault_answers}
 use Rattle.rws_wire.proofs.deframer.Deframer.read_payload.Goals as goal
 
 pub overflow_sub-self : goal.overflow_sub-self
 overflow_sub-self c =
     let d = c.self.inside in
-    let p = c.in-Ok-Some.payload in
-    let h = rw c.deref.ensures.value at (rw c.in-Ok-Some.field-0-is at c.in-Ok-Some.ensures.spelled) in
-    let t = is_behind d.start d.bytes.items (spelling c.args.first p.bytes) c.in-Ok-Some.behind.now c.self.invariant h.0 in
+    let p = c.in_ok-payload-in-Whole.payload in
+    let h = rw c.deref.ensures.value at c.in_ok-payload-in-Whole.ensures.spelled in
+    let t = is_behind d.start d.bytes.items (spelling c.args.first p.bytes) c.in_ok-payload-in-Whole.behind.now c.self.invariant.0 h.0 in
     omega (arith, t.fits)
 
-pub returns-in-Ok-Some-clause-answer : goal.returns-in-Ok-Some-clause-answer
-returns-in-Ok-Some-clause-answer c =
+pub invariant_of-self : goal.invariant_of-self
+invariant_of-self c = (c.self.invariant.0, no_memory_fault c.self.inside.limit c.args.first _ c.in-Bad.fault (fault_of_look _ c.in-Bad.fault c.in-Bad.ensures))
+
+pub returns-in-Bad-clause-answer : goal.returns-in-Bad-clause-answer
+returns-in-Bad-clause-answer c =
     let d = c.self.inside in
-    let p = c.in-Ok-Some.payload in
-    let h = rw c.deref.ensures.value at (rw c.in-Ok-Some.field-0-is at c.in-Ok-Some.ensures.spelled) in
-    let t = is_behind d.start d.bytes.items (spelling c.args.first p.bytes) c.in-Ok-Some.behind.now c.self.invariant h.0 in
+    let faulty = rw c.deref.ensures.value at (fault_of_look _ c.in-Bad.fault c.in-Bad.ensures) in
+    let read = next_unstopped c.args.self.now c.args.first d.limit d.start d.bytes.items _ c.requires (ap (λ (v : Deframing). v.limit) c.self.view_is) (ap (λ (v : Deframing). v.held) c.self.view_is) faulty in
+    fault_answers c.args.self.now _ c.args.first c.in-Bad.fault (no_memory_fault d.limit c.args.first _ c.in-Bad.fault faulty) read (rw (← c.self.view_is) refl)
+
+pub returns-in_ok-payload-in-Whole-clause-answer : goal.returns-in_ok-payload-in-Whole-clause-answer
+returns-in_ok-payload-in-Whole-clause-answer c =
+    let d = c.self.inside in
+    let p = c.in_ok-payload-in-Whole.payload in
+    let h = rw c.deref.ensures.value at c.in_ok-payload-in-Whole.ensures.spelled in
+    let t = is_behind d.start d.bytes.items (spelling c.args.first p.bytes) c.in_ok-payload-in-Whole.behind.now c.self.invariant.0 h.0 in
     let size : c.len.result ≡ length d.bytes.items = omega arith in
-    let whole = rw c.deref.ensures.value at (rw c.in-Ok-Some.field-0-is at c.in-Ok-Some.ensures.gathers) in
+    let whole = rw c.deref.ensures.value at c.in_ok-payload-in-Whole.ensures.gathers in
     let read = next_unstopped c.args.self.now c.args.first d.limit d.start d.bytes.items _ c.requires (ap (λ (v : Deframing). v.limit) c.self.view_is) (ap (λ (v : Deframing). v.held) c.self.view_is) whole in
     (rw (size, t.left) read, rw (← c.self.view_is) refl)
 
-pub returns-in-Ok-Some-clause-spelled : goal.returns-in-Ok-Some-clause-spelled
-returns-in-Ok-Some-clause-spelled c =
+pub returns-in_ok-payload-in-Whole-clause-spelled : goal.returns-in_ok-payload-in-Whole-clause-spelled
+returns-in_ok-payload-in-Whole-clause-spelled c =
     let d = c.self.inside in
-    let p = c.in-Ok-Some.payload in
-    let h = rw c.deref.ensures.value at (rw c.in-Ok-Some.field-0-is at c.in-Ok-Some.ensures.spelled) in
-    let t = is_behind d.start d.bytes.items (spelling c.args.first p.bytes) c.in-Ok-Some.behind.now c.self.invariant h.0 in
+    let p = c.in_ok-payload-in-Whole.payload in
+    let h = rw c.deref.ensures.value at c.in_ok-payload-in-Whole.ensures.spelled in
+    let t = is_behind d.start d.bytes.items (spelling c.args.first p.bytes) c.in_ok-payload-in-Whole.behind.now c.self.invariant.0 h.0 in
     let size : c.len.result ≡ length d.bytes.items = omega arith in
     rw (size, ← c.self.view_is) (t.spelled, h.1)
