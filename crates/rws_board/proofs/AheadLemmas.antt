@@ -9,12 +9,6 @@ ahead-then P Q R joins h0 h1 h2 (Some x) None l2 p q = absurd p
 ahead-then P Q R joins h0 h1 h2 (Some x) (Some y) None p q = absurd q
 ahead-then P Q R joins h0 h1 h2 (Some x) (Some y) (Some z) p q = joins (h0 ++ x) (h1 ++ y) (h2 ++ z) p q
 
--- what a call says in other words
-pub ahead-weaker : (P Q : List ℕ → List ℕ → Type 0) → ((x y : List ℕ) → P x y → Q x y) → (h0 h1 : List ℕ) (l0 l1 : Option (List ℕ)) → Ahead P h0 l0 h1 l1 → Ahead Q h0 l0 h1 l1
-ahead-weaker P Q weaker h0 h1 None l1 p = tt
-ahead-weaker P Q weaker h0 h1 (Some x) None p = absurd p
-ahead-weaker P Q weaker h0 h1 (Some x) (Some y) p = weaker (h0 ++ x) (h1 ++ y) p
-
 -- a change of what is held alone
 pub ahead-held : (P : List ℕ → List ℕ → Type 0) (h0 h1 : List ℕ) → ((rest : List ℕ) → P (h0 ++ rest) (h1 ++ rest)) → (left : Option (List ℕ)) → Ahead P h0 left h1 left
 ahead-held P h0 h1 holds None = tt

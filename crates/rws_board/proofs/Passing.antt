@@ -97,12 +97,6 @@ count-event End not = absurd (not refl)
 pub meaning_at-in_order : (number begun : ℕ) (line : List ℕ) → length line ≤ MAX_LINE → number ≢ LAST_LINE → meaning_at number begun line ≡ in_order begun (meaning_of line)
 meaning_at-in_order number begun line short not_last = grind (arith, nat_tests)
 
-pub meaning_at-last : (number begun : ℕ) (line : List ℕ) → number ≡ LAST_LINE → meaning_at number begun line ≡ Bad
-meaning_at-last number begun line last = grind (arith, nat_tests)
-
-pub meaning_at-long : (number begun : ℕ) (line : List ℕ) → MAX_LINE < length line → meaning_at number begun line ≡ Bad
-meaning_at-long number begun line long = grind (arith, nat_tests)
-
 -- the script where its first line says an event, and the place behind it
 pub script_at-says : (place next : Place) (line : List ℕ) (after : List (List ℕ)) (event : Event) → place.bad_line ≡ None → meaning_at place.number place.begun line ≡ Says event → next.bad_line ≡ None → next.number ≡ place.number + 1 → next.begun ≡ begun_after place.begun (Says event) → script_at place (line ∷ after) ≡ told_before event (script_at next after)
 script_at-says place next line after event going says still number begun = rw (going, says, still, number, begun)

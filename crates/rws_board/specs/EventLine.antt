@@ -42,7 +42,7 @@ session_of word = number_within 1 (2 ^ 32 - 1) word
 abbrev pub link_of : List ℕ → Option ℕ
 link_of word = number_within 1 (2 ^ 64 - 1) word
 
--- a server's index in the settings
+-- a server's index: any number up to 255, whether or not the settings have that server
 abbrev pub server_of : List ℕ → Option ℕ
 server_of word = number_within 0 255 word
 

@@ -1,5 +1,5 @@
 // The calls that an object in memory is to fail.
-ghost use Rattle.std.specs.Prelude.{◌≡◌, ◌++◌, ◌↔◌, List, [], ◌∷◌, ℕ, Contains, IfOk, IsTrue, OnOk, OnErr};
+ghost use Rattle.std.specs.Prelude.{◌≡◌, ◌↔◌, List, ℕ, Contains, IfOk, IsTrue};
 
 use std::alloc::{AllocError, Global};
 use std::marker::Model;
@@ -17,29 +17,12 @@ impl Model for CallList {
 }
 
 impl CallList {
-    /// No calls, which takes no memory.
-    pub fn new(alloc: Global) -> CallList
-        ensures { result ≡ [] }
-    {
-        CallList {
-            calls: Vec::new(alloc),
-        }
-    }
-
     pub fn from_slice(alloc: Global, calls: &[u64]) -> Result<CallList, AllocError>
         ensures { IfOk result (λ list. list ≡ calls.now) }
     {
         Ok(CallList {
             calls: Vec::from_slice(alloc, calls)?,
         })
-    }
-
-    pub fn push(&mut self, call: u64) -> Result<(), AllocError>
-        ensures ok { OnOk result (self.new ≡ self.old ++ call ∷ []) }
-        ensures err { OnErr result (self.new ≡ self.old) }
-    {
-        self.calls.push(call)?;
-        Ok(())
     }
 
     pub fn contains(&self, call: u64) -> bool

@@ -1,5 +1,5 @@
 // A sink in memory.
-ghost use Rattle.std.specs.Prelude.{◌≡◌, ◌+◌, ◌≤◌, ◌<◌, ◌↔◌, ◌⊎◌, ℕ, List, Some, [], Contains, IfOk, IsErr, OnErr, length};
+ghost use Rattle.std.specs.Prelude.{◌≡◌, ◌+◌, ◌≤◌, ◌<◌, ◌↔◌, ◌⊎◌, ℕ, List, Some, [], Contains, IfOk, IsErr, OnOk, OnErr, length};
 ghost use Rattle.rws_board.specs.Faults.{Rises, one_more};
 ghost use Rattle.rws_board.specs.Put.{PutAppends};
 
@@ -60,9 +60,12 @@ impl Sink for MemSink {
         ensures failed { OnErr result (Rises self.old.faults self.new.faults) }
         ensures refused { IsErr result ↔ (Contains self.old.fails self.old.calls
             ⊎ self.old.room < length self.old.taken + length piece.now) }
-        ensures err { OnErr result (self.new.taken ≡ self.old.taken) }
+        ensures untaken { OnErr result (self.new.taken ≡ self.old.taken) }
         ensures room { self.new.room ≡ self.old.room }
         ensures calls { self.new.calls ≡ one_more self.old.calls }
+        ensures fails { self.new.fails ≡ self.old.fails }
+        ensures ok { OnOk result (self.new.faults ≡ self.old.faults) }
+        ensures err { OnErr result (self.new.faults ≡ one_more self.old.faults) }
     {
         self.plan.call()?;
         if piece.len() > self.room - self.taken.len() {

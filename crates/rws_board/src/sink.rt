@@ -13,7 +13,7 @@ pub trait Sink {
     /// How many calls failed. The count stays at the greatest `u64`.
     ghost faults: { Self → ℕ };
 
-    /// Takes the whole piece, and hands it on before it answers. A call that fails took a front of it.
+    /// Takes the whole piece. A call that fails took a front of it.
     fn put(&mut self, piece: &[u8]) -> Result<(), Failed>
         ensures bytes { PutAppends (taken self.old) (taken self.new) result piece.now }
         ensures kept { faults self.old ≤ faults self.new }
