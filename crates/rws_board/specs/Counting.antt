@@ -1,5 +1,5 @@
 -- What holds of a place in a trace.
-use Rattle.std.specs.Prelude.{◌<◌, ◌≤◌}
+use Rattle.std.specs.Prelude.{◌≡◌, ◌<◌, ◌≤◌}
 use Rattle.rws_board.specs.declared.event_line.TheConstants.{LAST_LINE}
 use Rattle.rws_board.specs.declared.place.Place.{Place}
 
@@ -7,3 +7,8 @@ use Rattle.rws_board.specs.declared.place.Place.{Place}
 pub record IsCounted (place : Place) : Type 0 where
   pub line : place.number ≤ LAST_LINE
   pub events : place.events < place.number
+
+-- what was told stays: nothing changed but the number of the next line, which didn't fall
+pub record KeepsTold (old new : Place) : Type 0 where
+  pub number : old.number ≤ new.number
+  pub same : new ≡ record old { number = new.number }

@@ -1,7 +1,7 @@
 // The events of a source that holds a trace.
-ghost use Rattle.std.specs.Prelude.{◌≡◌, ◌+◌, ◌<◌, ◌≤◌, ◌≢◌, ℕ, [], None, Some, Ok, IfOk, IsErrOf};
+ghost use Rattle.std.specs.Prelude.{◌≡◌, ◌+◌, ◌≤◌, ◌≢◌, ℕ, [], None, Some, Ok, IfOk, IsErrOf, OnErr};
 ghost use Rattle.std.specs.Io.KnownBytes.{IsAtEnd};
-ghost use Rattle.rws_board.specs.Counting.{IsCounted};
+ghost use Rattle.rws_board.specs.Counting.{IsCounted, KeepsTold};
 ghost use Rattle.rws_board.specs.Faults.{Rises};
 ghost use Rattle.rws_board.specs.Lines.{lines_of};
 ghost use Rattle.rws_board.specs.Reading.{Ahead, IsStep, Reading, TellsNext, count_of, fresh, script_at, told_count};
@@ -45,11 +45,12 @@ impl EventReader {
     }
 
     /// Reads the next event: `End` at the end of the input and at a bad line. After an error nothing is said
-    /// of what is still to be read, and the reader is not to be used again.
+    /// of the bytes still to be read, and the reader is not to be used again.
     pub fn next<I: Source>(&mut self, input: &mut I) -> Result<Event, ReadError>
         ensures told { IfOk result (λ event. TellsNext self.old (I.left input.old) event self.new (I.left input.new)) }
         ensures events { IfOk result (λ event. self.new.place.events ≡ self.old.place.events + count_of event) }
         ensures end { result ≡ Ok Event.End → self.new.place.bad_line ≡ None → IsAtEnd (I.left input.new) }
+        ensures err { OnErr result (KeepsTold self.old.place self.new.place) }
         ensures kept { I.faults input.old ≤ I.faults input.new }
         ensures failed { IsErrOf result ReadError.Failed → Rises (I.faults input.old) (I.faults input.new) }
     {
@@ -86,7 +87,8 @@ impl EventReader {
         ensures counted { IsCounted self.new.place }
         ensures events { IfOk result (λ told. self.new.place.events ≡ self.old.place.events + told_count told) }
         ensures end { result ≡ Ok (Some Event.End) → self.new.place.bad_line ≡ None → IsAtEnd (I.left input.new) }
-        ensures silent { result ≡ Ok None → (self.old.place.number < self.new.place.number) × (self.new.place.bad_line ≡ None) }
+        ensures silent { result ≡ Ok None → self.new.place ≡ record self.old.place { number = self.old.place.number + 1 } }
+        ensures err { OnErr result (self.new.place ≡ self.old.place) }
         ensures kept { I.faults input.old ≤ I.faults input.new }
         ensures failed { IsErrOf result ReadError.Failed → Rises (I.faults input.old) (I.faults input.new) }
     {

@@ -1,5 +1,5 @@
 // A place in a trace.
-ghost use Rattle.std.specs.Prelude.{◌≡◌, ◌+◌, ◌<◌, ◌≤◌, List, ◌∷◌, ℕ, None, Some, Ok, length, IfOk};
+ghost use Rattle.std.specs.Prelude.{◌≡◌, ◌+◌, ◌≤◌, List, ◌∷◌, ℕ, None, Some, Ok, length, IfOk, OnErr};
 ghost use Rattle.rws_board.specs.Counting.{IsCounted};
 ghost use Rattle.rws_board.specs.EventLine.{meaning_of};
 ghost use Rattle.rws_board.specs.Reading.{IsFound, IsStep, script_at, told_count};
@@ -54,7 +54,8 @@ impl Place {
             → IsStep told self.new.bad_line (script_at self.old before) (script_at self.new after)) }
         ensures counted { IsCounted self.new }
         ensures events { IfOk result (λ told. self.new.events ≡ self.old.events + told_count told) }
-        ensures silent { result ≡ Ok None → (self.old.number < self.new.number) × (self.new.bad_line ≡ None) }
+        ensures silent { result ≡ Ok None → self.new ≡ record self.old { number = self.old.number + 1 } }
+        ensures err { OnErr result (self.new ≡ self.old) }
         ensures end { result ≡ Ok (Some End) → self.new.bad_line ≡ None → found ≡ Found.Nothing }
     {
         match found {
@@ -72,7 +73,8 @@ impl Place {
             IsStep told self.new.bad_line (script_at self.old (line.now ∷ after)) (script_at self.new after)) }
         ensures counted { IsCounted self.new }
         ensures events { IfOk result (λ told. self.new.events ≡ self.old.events + told_count told) }
-        ensures silent { result ≡ Ok None → (self.old.number < self.new.number) × (self.new.bad_line ≡ None) }
+        ensures silent { result ≡ Ok None → self.new ≡ record self.old { number = self.old.number + 1 } }
+        ensures err { OnErr result (self.new ≡ self.old) }
         ensures end { result ≡ Ok (Some End) → self.new.bad_line ≡ None → ⊥ }
     {
         if self.number == LAST_LINE {
