@@ -1,8 +1,10 @@
--- In a legal record each cause has its effect.
+-- In a legal record all that came is answered.
 use Rattle.std.proofs.Common.{◌≡◌, ℕ, zero, suc, ◌<◌, Bool, true, false, List, [], ◌∷◌, length, drop, refl, sym, ap, subst, ◌∙◌, arith, Option, Some, None}
 use Rattle.std.specs.Prelude.{Contains, slice_index_or}
 use Rattle.std.proofs.lemmas.Bool.{ne_eqb}
 use Rattle.rws_wire.specs.declared.drop_cause.DropCause.TheVariants.{BadWire, BadReply, Unasked}
+use Rattle.rws_wire.specs.declared.fault.WireFault.{WireFault}
+use Rattle.rws_wire.specs.declared.fault.WireFault.TheVariants as faults
 use Rattle.rws_wire.specs.Payloads.{Beginning, first_payload}
 use Rattle.rws_wire.specs.Payloads.Beginning.{Nothing, Whole, Faulty}
 use Rattle.rws_session.specs.Item.{Item, Coming, Command, Put}
@@ -16,15 +18,15 @@ use Rattle.rws_session.specs.Rules.{next, owed, due, due_send, due_coming, due_t
 use Rattle.rws_session.specs.Record.{IsRecord, IsInput}
 use Rattle.rws_session.specs.Record.IsRecord.{begins, steps, hears as heard}
 use Rattle.rws_session.specs.Causes.{com_quit, com_query, com_ping, IsBadWire, taken_up, replied, lost, oldest}
-use Rattle.rws_session.specs.Effects.{Gives, for_server, AnswersCommand, AnswersReply, AnswersLoss, HasAnswered}
+use Rattle.rws_session.specs.Effects.{Gives, for_server, AnswersCommand, AnswersReply, AnswersFault, AnswersLoss, HasAnswered}
 use Rattle.rws_session.specs.Laws.{Effects}
 use Rattle.rws_session.proofs.Steps.{Due, Step, of_next, rests_owing_nothing}
 use Rattle.rws_session.proofs.Steps.Due.{arrives, breaks, replies, garbles, strays, takes, takes_fault}
 use Rattle.rws_session.proofs.Steps.Step.{pays, sends, goes_on, hears}
-use Rattle.rws_session.proofs.Faults.{found_bad_wire}
+use Rattle.rws_session.proofs.Faults.{FaultAt, found_bad_wire}
 use Rattle.rws_session.proofs.Ended.{ended}
 use Rattle.rws_session.proofs.Breaking.{HasFault, rests_broken}
-use Rattle.rws_session.proofs.Sound.{Sound}
+use Rattle.rws_session.proofs.Sound.{HeldFaults, Sound}
 use Rattle.rws_session.proofs.Keeps.{goes_with_one}
 use Rattle.rws_session.proofs.Caused.{legal_sound}
 
@@ -110,6 +112,24 @@ came (garbles has a f) link payload e = absurd cc
 came (strays has a u) link payload e = absurd cc
 came (takes p q j) link payload e = absurd cc
 came (takes_fault p q) link payload e = absurd cc
+
+-- A fault
+
+fault_answered : (past : List Item) (fault : WireFault) → FaultAt 0 (unread past) fault → AnswersFault (TakesFault fault ∷ past)
+fault_answered past (faults.OutOfOrder want got) at = (refl, refl)
+fault_answered past (faults.TooLarge length) at = (refl, refl)
+fault_answered past faults.OutOfMemory at = at
+
+broke : {past : List Item} {item : Item} → Due past item → Sound past → AnswersFault (item ∷ past)
+broke {past} (takes_fault {fault = fault} p q) keeps =
+    let held = subst (λ (list : List Coming). HeldFaults list (is_broken past) (unread past)) q keeps.held in
+    fault_answered past fault held.0.1
+broke (garbles has a f) keeps = refl
+broke (strays has a u) keeps = refl
+broke (arrives b f) keeps = tt
+broke (breaks b f) keeps = tt
+broke (replies has a f) keeps = tt
+broke (takes p q j) keeps = tt
 
 -- A link that was lost
 
@@ -228,22 +248,23 @@ rested past legal e n =
 record AtOnce (past : List Item) : Type 0 where
   command : (payload : List ℕ) (number : ℕ) → taken_up past ≡ Some (Arrived payload number) → AnswersCommand payload number past
   reply : (link : ℕ) (payload : List ℕ) → replied past ≡ Some (link, payload) → AnswersReply link payload past
+  fault : AnswersFault past
 
 step_at_once : {past : List Item} {item : Item} → Step past item → Sound past → AtOnce (item ∷ past)
-step_at_once (pays o) keeps = record { command = λ payload number e. absurd cc; reply = λ link payload e. absurd cc }
-step_at_once (sends o n p k s) keeps = record { command = λ payload number e. absurd cc; reply = λ link payload e. absurd cc }
-step_at_once (goes_on o n due) keeps = record { command = taken due o n keeps; reply = came due }
+step_at_once (pays o) keeps = record { command = λ payload number e. absurd cc; reply = λ link payload e. absurd cc; fault = tt }
+step_at_once (sends o n p k s) keeps = record { command = λ payload number e. absurd cc; reply = λ link payload e. absurd cc; fault = tt }
+step_at_once (goes_on o n due) keeps = record { command = taken due o n keeps; reply = came due; fault = broke due keeps }
 step_at_once {past} (hears {item = item} o n input) keeps = of_input item input
   where
     of_input : (item : Item) → IsInput item past → AtOnce (item ∷ past)
-    of_input (ClientBytes bytes) input = record { command = λ payload number e. absurd cc; reply = λ link payload e. absurd cc }
-    of_input (LinkBytes from bytes) input = record { command = λ payload number e. absurd cc; reply = λ link payload e. absurd cc }
-    of_input ClientGone input = record { command = λ payload number e. absurd cc; reply = λ link payload e. absurd cc }
-    of_input (LinkLost gone) input = record { command = λ payload number e. absurd cc; reply = λ link payload e. absurd cc }
+    of_input (ClientBytes bytes) input = record { command = λ payload number e. absurd cc; reply = λ link payload e. absurd cc; fault = tt }
+    of_input (LinkBytes from bytes) input = record { command = λ payload number e. absurd cc; reply = λ link payload e. absurd cc; fault = tt }
+    of_input ClientGone input = record { command = λ payload number e. absurd cc; reply = λ link payload e. absurd cc; fault = tt }
+    of_input (LinkLost gone) input = record { command = λ payload number e. absurd cc; reply = λ link payload e. absurd cc; fault = tt }
     of_input _ input = absurd input
 
 at_once : {past : List Item} → IsRecord past → AtOnce past
-at_once (begins link server) = record { command = λ payload number e. absurd cc; reply = λ link payload e. absurd cc }
+at_once (begins link server) = record { command = λ payload number e. absurd cc; reply = λ link payload e. absurd cc; fault = tt }
 at_once (steps {past = past} {item = item} legal e) = step_at_once (of_next past item e) (legal_sound legal)
 at_once (heard {past = past} {item = item} legal rests n input) = step_at_once (hears (rests_owing_nothing past rests) n input) (legal_sound legal)
 
@@ -251,6 +272,7 @@ pub effects : Effects
 effects past legal = record {
   command = (at_once legal).command;
   reply = (at_once legal).reply;
+  fault = (at_once legal).fault;
   loss = losses past;
   rest = rested past legal;
   ended = ended past legal;

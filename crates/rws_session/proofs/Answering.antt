@@ -14,7 +14,7 @@ use Rattle.rws_session.specs.Judging.{verdict_of}
 use Rattle.rws_session.specs.Values.{limit}
 use Rattle.rws_session.specs.Rules.{next, is_some_byte}
 use Rattle.rws_session.specs.Kept.{Kept, IsOpen, CanRead}
-use Rattle.rws_session.specs.Turning.{Moves, MovesToRest, IsFed, IsAnswered, IsOver}
+use Rattle.rws_session.specs.Turning.{Moves, MovesToRest, IsFed, HasPayloadOut, IsOver}
 use Rattle.rws_session.proofs.Carrying.{rests_at, rests_from, moves_to, moves_from}
 use Rattle.rws_session.proofs.Next.{rests_on}
 use Rattle.rws_session.proofs.Linking.{ends_none, too_much, answered}
@@ -22,13 +22,13 @@ use Rattle.rws_session.proofs.Replying.{Awaits, fed_awaits, fed_reads, some_byte
 use Rattle.rws_session.proofs.Taking.{reads_first}
 
 -- the payload is out of the link's stream
-pub is_answered : (k mid : Kept) (past : List Item) (bytes payload : List ℕ) (number next : ℕ) → IsFed k past bytes
+pub has_payload_out : (k mid : Kept) (past : List Item) (bytes payload : List ℕ) (number next : ℕ) → IsFed k past bytes
     → next_of k.server number ≡ Whole payload next mid.server.held
     → mid.server ≡ record k.server { held = mid.server.held } → mid ≡ record k { server = mid.server }
-    → IsAnswered mid past bytes payload number
-is_answered k mid past bytes payload number next f is stream only =
+    → HasPayloadOut mid past bytes payload number
+has_payload_out k mid past bytes payload number next f is stream only =
     let all : mid ≡ record k { server = record k.server { held = mid.server.held } } = only ∙ ap (λ (d : Deframing). record k { server = d }) stream in
-    subst (λ (m : Kept). IsAnswered m past bytes payload number) (sym all) (record {
+    subst (λ (m : Kept). HasPayloadOut m past bytes payload number) (sym all) (record {
       held = k.server.held;
       fed = f;
       next = next;
@@ -45,7 +45,7 @@ still_open : (k : Kept) (past : List Item) → k.over ≡ false → IsOpen k pas
 still_open k past goes (inl o) = o
 still_open k past goes (inr over) = absurd (let clash : true ≡ false = sym over.over ∙ goes in cc)
 
-module _ (k : Kept) (past : List Item) (bytes payload : List ℕ) (number : ℕ) (a : IsAnswered k past bytes payload number) (some : k.pending ≡ Some number) where
+module _ (k : Kept) (past : List Item) (bytes payload : List ℕ) (number : ℕ) (a : HasPayloadOut k past bytes payload number) (some : k.pending ≡ Some number) where
   asked : Awaits past number
   asked = fed_awaits (record k { server = record k.server { held = a.held } }) past bytes number a.fed some
 

@@ -68,18 +68,3 @@ behind_by bytes NoInteger value at ends e = absurd cc
 
 pub behind_is : (bytes : List ℕ) (value at : ℕ) → integer_at bytes 0 ≡ Some (value, at) → Some (drop at bytes) ≡ after (lenenc bytes)
 behind_is bytes value at e = behind_by bytes (lenenc bytes) value at (lenenc_end bytes) e
-
-pub no_integer : (bytes : List ℕ) → integer_at bytes 0 ≡ None → None ≡ after (lenenc bytes)
-no_integer bytes e = none_by (lenenc bytes) e where
-  none_by : (read : Lenenc) → option_map (placed bytes) (integer read) ≡ None → None ≡ after read
-  none_by (Integer number rest) e = absurd cc
-  none_by Cut e = refl
-  none_by NoInteger e = refl
-
--- the place is one of the bytes
-pub place_fits : (bytes : List ℕ) (value at : ℕ) → integer_at bytes 0 ≡ Some (value, at) → at ≤ length bytes
-place_fits bytes value at e = fits_by (lenenc bytes) e where
-  fits_by : (read : Lenenc) → option_map (placed bytes) (integer read) ≡ Some (value, at) → at ≤ length bytes
-  fits_by (Integer number rest) e = let place : length bytes - length rest ≡ at = place_is (placed bytes (number, rest)) (value, at) e in omega arith
-  fits_by Cut e = absurd cc
-  fits_by NoInteger e = absurd cc

@@ -57,10 +57,6 @@ links_drop past link Unasked caused d one_link = links_fault link Unasked refl r
 links_drop past link End caused d one_link = loses link (Puts (Drops link End)) refl refl (λ e. is_over_now e caused.1) one_link
 links_drop past link _ caused d one_link = absurd caused
 
--- two lists of one thing each
-same_first : (one other : Put) (ones others : List Put) → one ∷ ones ≡ other ∷ others → one ≡ other
-same_first one other ones others e = cc
-
 pub links_put : (past : List Item) (put : Put) (others : List Put) → owed past ≡ put ∷ others → Caused (put ∷ others) past
     → Links past → Links (Puts put ∷ past)
 links_put past (Tells number tell) others o caused (has_one link e k) = has_one link e k

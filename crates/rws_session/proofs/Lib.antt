@@ -10,7 +10,6 @@ pub mod Next
 pub mod Replying
 pub mod Answering
 pub mod IntegerFacts
-mod Rows
 mod Runs
 mod Faults
 mod Steps

@@ -8,14 +8,14 @@ use Rattle.rws_wire.specs.declared.drop_cause.DropCause.{DropCause}
 use Rattle.rws_wire.specs.declared.drop_cause.DropCause.TheVariants.{BadWire, BadReply, Unasked, End}
 use Rattle.rws_wire.specs.Payloads.{first_payload}
 use Rattle.rws_wire.specs.Payloads.Beginning.{Whole}
-use Rattle.rws_session.specs.declared.verb.Verb.TheVariants.{Quit, Query, Ping, Unknown}
 use Rattle.rws_session.specs.Item.{Item, Coming, Command, Verdict, Judged, Tell, Put}
 use Rattle.rws_session.specs.Item.Item.{ClientBytes, LinkBytes, ClientGone, LinkLost, Replies, Takes, TakesFault, Puts}
 use Rattle.rws_session.specs.Item.Coming.{Arrived}
 use Rattle.rws_session.specs.Item.Error.{UnknownCommand}
+use Rattle.rws_session.specs.Item.Judged.{Leaves, Pings, IsRefused, Serves}
 use Rattle.rws_session.specs.Item.Put.{Tells, Sends, Drops, Closes}
 use Rattle.rws_session.specs.Item.Tell.{Passes, Refuses}
-use Rattle.rws_session.specs.Judging.{judged, judged_as, verdict_of}
+use Rattle.rws_session.specs.Judging.{judged, verdict_of}
 use Rattle.rws_session.specs.Values.{limit, unread, is_broken, links, kept, awaited, link_unread, is_sent_on, is_over, rest_of}
 use Rattle.rws_session.specs.Rules.{owed, loss_reason, is_some_byte, after_command, after_fault, after_reply, after_payload}
 use Rattle.rws_session.specs.Record.{IsInput}
@@ -58,7 +58,7 @@ module _ (number : ℕ) (now : List Item) where
   by_code : (code : ℕ) (arguments : List ℕ) (is_quit is_query is_ping : Bool) → (code == com_quit) ≡ is_quit
       → (code == com_query) ≡ is_query
       → (code == com_ping) ≡ is_ping → taken_up now ≡ Some (Arrived (code ∷ arguments) number)
-      → Caused (after_command (judged_as (if is_quit then Quit else (if is_query then Query else (if is_ping then Ping else Unknown))) (code ∷ arguments) number) number) now
+      → Caused (after_command (if is_quit then Leaves else (if is_query then Serves (record { payload = code ∷ arguments; number = number }) else (if is_ping then Pings else IsRefused UnknownCommand))) number) now
   by_code code arguments true is_query is_ping q s p t =
       let same = eqb-true code com_quit q in last (arguments, number, rw same at t)
   by_code code arguments false true is_ping q s p t = nothing

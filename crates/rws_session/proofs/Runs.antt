@@ -12,6 +12,8 @@ use Rattle.rws_board.specs.declared.action.Action.TheVariants.{ToClient, ToLink,
 use Rattle.rws_board.specs.declared.event.Event.{Event}
 use Rattle.rws_board.specs.declared.event.Event.TheVariants.{Begin, ClientBytes, ClientGone, LinkBytes, LinkGone, End}
 use Rattle.rws_session.specs.Item.{Item}
+use Rattle.rws_session.specs.Item.Verdict.{Done, Failed}
+use Rattle.rws_session.specs.Judging.{verdict_of}
 use Rattle.rws_session.specs.Run.{Entry, IsRun, IsRunOver, doing, told, events_of, done_in}
 use Rattle.rws_session.specs.Run.Entry.{Came, Passed, Did}
 use Rattle.rws_session.specs.Run.IsRun.{starts, came, passed, did}
@@ -141,6 +143,12 @@ ping : Gives
 unfolding lenenc full_packet spelling payload_behind first_payload
 ping = gives refl refl
 
+two_pings_in_one_piece : Gives
+    (Begin 1 0 ∷ from_client 1 (codes "010000000e010000000e") ∷ End ∷ [])
+    (to_client 1 (codes "0700000100000002000000") ∷ to_client 1 (codes "0700000100000002000000") ∷ [])
+unfolding lenenc full_packet spelling payload_behind first_payload
+two_pings_in_one_piece = gives refl refl
+
 ping_in_five_pieces : Gives
     (Begin 1 0 ∷ from_client 1 (codes "01") ∷ from_client 1 (codes "00") ∷ from_client 1 (codes "00") ∷
     from_client 1 (codes "00") ∷ from_client 1 (codes "0e") ∷ End ∷ [])
@@ -189,6 +197,13 @@ lost_with_a_command : Gives
 unfolding lenenc full_packet spelling payload_behind first_payload
 lost_with_a_command = gives refl refl
 
+-- a second command waits until the first is answered
+one_at_a_time : Gives
+    (Begin 1 0 ∷ from_client 1 (codes "020000000378020000000379") ∷ End ∷ [])
+    (to_link 1 (codes "020000000378") ∷ [])
+unfolding lenenc full_packet spelling payload_behind first_payload
+one_at_a_time = gives refl refl
+
 -- what waits behind a command is taken up when its reply is whole
 one_after_the_other : Gives
     (Begin 1 0 ∷ from_client 1 (codes "020000000378010000000e0100000001") ∷ on_link 1 (codes "0700000100") ∷
@@ -205,6 +220,28 @@ error_of_a_server : Gives
     to_client 1 (codes "0700000100000002000000") ∷ [])
 unfolding lenenc full_packet spelling payload_behind first_payload
 error_of_a_server = gives refl refl
+
+-- the shortest: no text behind the SQL state
+shortest_error : Gives
+    (Begin 1 0 ∷ from_client 1 (codes "020000000378") ∷ on_link 1 (codes "09000001ff1504233238303030") ∷ End ∷ [])
+    (to_link 1 (codes "020000000378") ∷ to_client 1 (codes "09000001ff1504233238303030") ∷ [])
+unfolding lenenc full_packet spelling payload_behind first_payload
+shortest_error = gives refl refl
+
+-- how a reply ended isn't among what is done outside
+verdict_of_an_ok : verdict_of (hex (codes "00000002000000")) ≡ Some (Done 2)
+unfolding lenenc
+verdict_of_an_ok = refl
+
+verdict_of_an_error : verdict_of (hex (codes "ff1504233238303030")) ≡ Some (Failed 1045)
+verdict_of_an_error = refl
+
+-- a payload that begins no reply that a session passes on
+no_reply : Gives
+    (Begin 1 0 ∷ from_client 1 (codes "020000000378") ∷ on_link 1 (codes "01000001fb") ∷ End ∷ [])
+    (to_link 1 (codes "020000000378") ∷ Drop 1 BadReply ∷ Close 1 OutcomeUnknown ∷ [])
+unfolding lenenc full_packet spelling payload_behind first_payload
+no_reply = gives refl refl
 
 -- an OK that announces more results ends no reply
 more_results : Gives
@@ -250,6 +287,13 @@ one_link_breaks : Gives
     Close 1 OutcomeUnknown ∷ to_client 2 (codes "0700000100000002000000") ∷ [])
 unfolding lenenc full_packet spelling payload_behind first_payload
 one_link_breaks = gives refl refl
+
+-- a client that asked nothing
+gone_at_once : Gives
+    (Begin 1 0 ∷ ClientGone 1 ∷ End ∷ [])
+    (Drop 1 AtEnd ∷ [])
+unfolding lenenc full_packet spelling payload_behind first_payload
+gone_at_once = gives refl refl
 
 -- a client that is gone is told nothing more, and closes nothing
 client_gone : Gives

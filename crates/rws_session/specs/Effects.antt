@@ -1,13 +1,16 @@
--- What follows on each cause: the other direction of `Causes`.
+-- What follows on what came: the other direction of `Causes`. What was taken up, a reply, a fault and a loss are
+-- answered by what is given out next; a session that rests has left nothing unanswered but what its server is to answer
+-- first.
 use Rattle.std.specs.Prelude.{◌≡◌, ℕ, true, false, List, [], ◌∷◌, Some, None, Contains}
-use Rattle.rws_wire.specs.declared.close_reason.CloseReason.TheVariants.{Quit, OutcomeUnknown, SessionState}
-use Rattle.rws_wire.specs.declared.drop_cause.DropCause.TheVariants.{BadReply}
+use Rattle.rws_wire.specs.declared.close_reason.CloseReason.TheVariants.{Quit, OutOfOrder, TooLarge, OutcomeUnknown, SessionState}
+use Rattle.rws_wire.specs.declared.drop_cause.DropCause.TheVariants.{BadWire, BadReply, Unasked}
+use Rattle.rws_wire.specs.declared.fault.WireFault.TheVariants as faults
 use Rattle.rws_wire.specs.Payloads.{first_payload}
 use Rattle.rws_wire.specs.Payloads.Beginning.{Nothing}
 use Rattle.rws_session.specs.Item.{Item, Command, Verdict, Put}
-use Rattle.rws_session.specs.Item.Item.{Puts}
+use Rattle.rws_session.specs.Item.Item.{Garbles, Strays, TakesFault, Puts}
 use Rattle.rws_session.specs.Item.Coming.{Arrived}
-use Rattle.rws_session.specs.Item.Error.{UnknownCommand}
+use Rattle.rws_session.specs.Item.Error.{UnknownCommand, PacketsOutOfOrder, CommandTooLarge}
 use Rattle.rws_session.specs.Item.Put.{Tells, Sends, Drops, Closes}
 use Rattle.rws_session.specs.Item.Tell.{Passes, Owns, Refuses}
 use Rattle.rws_session.specs.Item.Purpose.{Asks}
@@ -41,6 +44,23 @@ AnswersReply link payload past =
     → (command : Command) × Gives (Tells command.number (Passes link command payload (Some verdict))) past)
     × (verdict_of payload ≡ None → Gives (Drops link BadReply) past)
 
+-- this is given out next, and that behind it
+abbrev pub GivesBoth : Put → Put → List Item → Type 0
+GivesBoth one other past = Gives one past × Gives other (Puts one ∷ past)
+
+-- A fault of the client's stream is told at once, and behind that the session is closed with what the fault says; no
+-- other fault is taken up. A link that breaks the rules of packets, or gives a byte that nobody awaited, is given up at
+-- once.
+abbrev pub AnswersFault : List Item → Type 0
+AnswersFault (TakesFault (faults.OutOfOrder want got) ∷ past) =
+    GivesBoth (Tells 1 (Refuses PacketsOutOfOrder)) (Closes (OutOfOrder want got)) (TakesFault (faults.OutOfOrder want got) ∷ past)
+AnswersFault (TakesFault (faults.TooLarge length) ∷ past) =
+    GivesBoth (Tells 1 (Refuses CommandTooLarge)) (Closes (TooLarge length)) (TakesFault (faults.TooLarge length) ∷ past)
+AnswersFault (TakesFault faults.OutOfMemory ∷ past) = ⊥
+AnswersFault (Garbles link ∷ past) = Gives (Drops link BadWire) (Garbles link ∷ past)
+AnswersFault (Strays link ∷ past) = Gives (Drops link Unasked) (Strays link ∷ past)
+AnswersFault _ = Unit {0}
+
 -- a session whose link is lost is closed at once
 abbrev pub AnswersLoss : ℕ → List Item → Type 0
 AnswersLoss link past =
@@ -70,6 +90,7 @@ pub record IsAnswered (past : List Item) : Type 0 where
   pub command : (payload : List ℕ) (number : ℕ) → taken_up past ≡ Some (Arrived payload number)
       → AnswersCommand payload number past
   pub reply : (link : ℕ) (payload : List ℕ) → replied past ≡ Some (link, payload) → AnswersReply link payload past
+  pub fault : AnswersFault past
   pub loss : (link : ℕ) → lost past ≡ Some link → AnswersLoss link past
   pub rest : next past ≡ None → is_over past ≡ false → HasAnswered past
   -- a session that is over has given up its links

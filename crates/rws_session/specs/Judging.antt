@@ -2,30 +2,20 @@
 use Rattle.std.specs.Prelude.{ℕ, ◌+◌, ◌*◌, ◌/◌, ◌%◌, Bool, List, [], ◌∷◌, ◌==◌, ◌&&◌, Option, Some, None, if◌then◌else◌}
 use Rattle.rws_wire.specs.Lenenc.{Lenenc, lenenc}
 use Rattle.rws_wire.specs.Lenenc.Lenenc.{Integer, Cut, NoInteger}
-use Rattle.rws_session.specs.declared.verb.Verb.{Verb}
-use Rattle.rws_session.specs.declared.verb.Verb.TheVariants.{Quit, Query, Ping, Unknown}
 use Rattle.rws_session.specs.Item.{Verdict, Judged}
 use Rattle.rws_session.specs.Item.Error.{UnknownCommand}
 use Rattle.rws_session.specs.Item.Verdict.{Done, Failed}
 use Rattle.rws_session.specs.Item.Judged.{Leaves, Pings, IsRefused, Serves}
 
--- COM_QUIT, COM_QUERY and COM_PING by the first byte; any other byte and none at all are unknown
-abbrev pub verb_by : ℕ → Verb
-verb_by code = if code == 0x01 then Quit else (if code == 0x03 then Query else (if code == 0x0E then Ping else Unknown))
-
-abbrev pub verb_of : List ℕ → Verb
-verb_of [] = Unknown
-verb_of (code ∷ arguments) = verb_by code
-
-abbrev pub judged_as : Verb → List ℕ → ℕ → Judged
-judged_as Quit payload number = Leaves
-judged_as Ping payload number = Pings
-judged_as Query payload number = Serves (record { payload = payload; number = number })
-judged_as Unknown payload number = IsRefused UnknownCommand
-
--- what a command is taken for; its reply begins with this number
+-- What a command is taken for; its reply begins with this number. The first byte is COM_QUIT, COM_QUERY or COM_PING;
+-- any other byte and none at all are unknown.
 abbrev pub judged : List ℕ → ℕ → Judged
-judged payload number = judged_as (verb_of payload) payload number
+judged [] number = IsRefused UnknownCommand
+judged (code ∷ arguments) number =
+    if code == 0x01 then Leaves
+    else (if code == 0x03 then Serves (record { payload = code ∷ arguments; number = number })
+    else (if code == 0x0E then Pings
+    else IsRefused UnknownCommand))
 
 -- an OK ends the reply where its status has neither 0x0008, more results, nor 0x4000, session state
 abbrev pub is_plain : ℕ → ℕ → Bool

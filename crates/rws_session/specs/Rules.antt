@@ -98,10 +98,6 @@ owed (item ∷ past) = response item past
 
 -- What is due where nothing is owed
 
--- no output of a session awaits an answer of the pool
-abbrev pub awaits_pool : List Item → Bool
-awaits_pool past = false
-
 -- the pending command goes on the link that the session is kept on, where it wasn't sent yet
 abbrev pub sending : Option Command → Option ℕ → (ℕ → Bool) → Option Item
 sending (Some command) (Some link) is_sent =
@@ -161,4 +157,4 @@ paying [] past = if is_over past then None else due past
 
 -- the session's next step; None where it rests
 abbrev pub next : List Item → Option Item
-next past = if awaits_pool past then None else paying (owed past) past
+next past = paying (owed past) past

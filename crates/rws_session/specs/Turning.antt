@@ -5,8 +5,11 @@ use Rattle.rws_wire.specs.Payloads.Beginning.{Whole}
 use Rattle.rws_board.specs.declared.action.Action.{Action}
 use Rattle.rws_session.specs.declared.refusal.Refusal.{Refusal}
 use Rattle.rws_session.specs.declared.refusal.Refusal.TheVariants as refusals
-use Rattle.rws_session.specs.Item.{Item, Put, Error}
+use Rattle.rws_session.specs.declared.verb.Verb.{Verb}
+use Rattle.rws_session.specs.declared.verb.Verb.TheVariants as verbs
+use Rattle.rws_session.specs.Item.{Item, Judged, Put, Error}
 use Rattle.rws_session.specs.Item.Error.{UnknownCommand, PacketsOutOfOrder, CommandTooLarge}
+use Rattle.rws_session.specs.Item.Judged.{Leaves, Pings, IsRefused, Serves}
 use Rattle.rws_session.specs.Values.{limit, pending, is_over}
 use Rattle.rws_session.specs.Rules.{next}
 use Rattle.rws_session.specs.Record.{GoesOn}
@@ -24,14 +27,14 @@ pub record IsOver (k : Kept) (past : List Item) : Type 0 where
   pub rests : next past ≡ None
 
 -- the session goes on, or is over
-abbrev pub Stands_between : Kept → List Item → Type 0
-Stands_between k past = IsOpen k past ⊎ IsOver k past
+abbrev pub StandsBetween : Kept → List Item → Type 0
+StandsBetween k past = IsOpen k past ⊎ IsOver k past
 
 -- the session went on from one record to another, and gave out this more
 pub record Moves (past : List Item) (old new : Kept) : Type 0 where
   pub now : List Item
   pub went_on : GoesOn past now
-  pub stands : Stands_between new now
+  pub stands : StandsBetween new now
   pub number : new.number ≡ old.number
   pub more : List Action
   pub given : actions_of old.number now ≡ actions_of old.number past ++ more
@@ -65,11 +68,18 @@ pub record IsFed (k : Kept) (past : List Item) (bytes : List ℕ) : Type 0 where
 
 -- A payload of the reply that begins with this number is out of the link's stream: the record is one of the session
 -- as it was with the payload in its stream, and not read.
-pub record IsAnswered (k : Kept) (past : List Item) (bytes payload : List ℕ) (number : ℕ) : Type 0 where
+pub record HasPayloadOut (k : Kept) (past : List Item) (bytes payload : List ℕ) (number : ℕ) : Type 0 where
   pub held : List ℕ
   pub fed : IsFed (record k { server = record k.server { held = held } }) past bytes
   pub next : ℕ
   pub whole : first_payload limit number held ≡ Whole payload next k.server.held
+
+-- what a command of this verb is taken for
+abbrev pub judged_as : Verb → List ℕ → ℕ → Judged
+judged_as verbs.Quit payload number = Leaves
+judged_as verbs.Ping payload number = Pings
+judged_as verbs.Query payload number = Serves (record { payload = payload; number = number })
+judged_as verbs.Unknown payload number = IsRefused UnknownCommand
 
 -- the error that a refusal answers
 abbrev pub error_of : Refusal → Error

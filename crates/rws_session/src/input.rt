@@ -3,7 +3,7 @@
 use rws_wire::Text;
 
 /// What comes to a session from outside.
-#[derive(Debug, Drop)]
+#[derive(Drop)]
 pub enum SessionInput {
     /// Bytes came from the client.
     Client(Text),

@@ -19,7 +19,8 @@ pub fn causes()
     ensures in_runs { CausesInRuns }
 {}
 
-/// Whatever a session is to answer, it answers before it rests.
+/// What a session takes up, a reply, a fault and a loss are answered by what is given out next. Where it rests, nothing
+/// waits for an answer but the command that its server has, and what the client sent behind it.
 pub fn effects()
     ensures { Effects }
 {}

@@ -5,7 +5,7 @@ ghost use Rattle.rws_session.specs.Outputs.{payload_of};
 ghost use Rattle.rws_session.specs.Turning.{error_of};
 
 /// An error of the proxy's own.
-#[derive(Clone, Copy, Debug)]
+#[derive(Clone, Copy)]
 pub(crate) enum Refusal {
     /// The command is empty, or none that is known.
     UnknownCommand,

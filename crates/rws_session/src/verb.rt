@@ -1,8 +1,8 @@
 // What a command of a client asks for ("Text protocol" and "Utility commands" of the protocol).
-ghost use Rattle.std.specs.Prelude.{◌≡◌};
+ghost use Rattle.std.specs.Prelude.{◌≡◌, ℕ};
 
 /// A command by its first byte.
-#[derive(Clone, Copy, Debug, PartialEq, Eq)]
+#[derive(Clone, Copy)]
 pub(crate) enum Verb {
     /// COM_QUIT
     Quit,
@@ -15,11 +15,12 @@ pub(crate) enum Verb {
 }
 
 impl Verb {
-    ghost use Rattle.rws_session.specs.Judging.{verb_of};
+    ghost use Rattle.rws_session.specs.Judging.{judged};
+    ghost use Rattle.rws_session.specs.Turning.{judged_as};
 
     /// The verb of a command's payload.
     pub(crate) fn of(payload: &[u8]) -> Verb
-        ensures { result ≡ verb_of payload.now }
+        ensures { (number : ℕ) → judged payload.now number ≡ judged_as result payload.now number }
     {
         match payload {
             [0x01, ..] => Verb::Quit,

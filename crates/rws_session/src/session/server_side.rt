@@ -9,7 +9,7 @@ ghost use Rattle.rws_session.specs.Item.{Item};
 ghost use Rattle.rws_session.specs.Item.Item.{LinkBytes, LinkLost};
 ghost use Rattle.rws_session.specs.Rules.{next, is_some_byte};
 ghost use Rattle.rws_session.specs.Kept.{IsOpen};
-ghost use Rattle.rws_session.specs.Turning.{MovesToRest, IsFed, IsAnswered};
+ghost use Rattle.rws_session.specs.Turning.{MovesToRest, IsFed, HasPayloadOut};
 
 use crate::reply::is_reply;
 use crate::session::Session;
@@ -44,7 +44,7 @@ impl Session {
     }
 
     /// The link's stream holds a byte that isn't read.
-    fn holds_reply(&self) -> bool
+    fn holds_bytes(&self) -> bool
         ensures { result ≡ is_some_byte self.now.server.held }
     {
         self.server.held() > 0
@@ -66,7 +66,7 @@ impl Session {
         ensures { (past : List Item) (bytes : List ℕ) → IsFed self.old past bytes → self.old.pending ≡ None
             → OnOk result (MovesToRest (LinkBytes self.old.link bytes ∷ past) self.old self.new) }
     {
-        if self.holds_reply() {
+        if self.holds_bytes() {
             return self.give_up(DropCause::Unasked, CloseReason::SessionState);
         }
         Ok(())
@@ -106,14 +106,14 @@ impl Session {
 
     /// A payload of the awaited reply came: it is the whole reply, or none.
     fn answer(&mut self, number: u8, payload: &[u8]) -> Result<(), AllocError>
-        ensures { (past : List Item) (bytes : List ℕ) → IsAnswered self.old past bytes payload.now number → self.old.pending ≡ Some number
+        ensures { (past : List Item) (bytes : List ℕ) → HasPayloadOut self.old past bytes payload.now number → self.old.pending ≡ Some number
             → OnOk result (MovesToRest (LinkBytes self.old.link bytes ∷ past) self.old self.new) }
     {
         if !is_reply(payload) {
             return self.give_up(DropCause::BadReply, CloseReason::OutcomeUnknown);
         }
         self.pass(number, payload)?;
-        if self.holds_reply() {
+        if self.holds_bytes() {
             return self.give_up(DropCause::Unasked, CloseReason::SessionState);
         }
         self.take_up()

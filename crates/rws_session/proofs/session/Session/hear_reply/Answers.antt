@@ -4,7 +4,7 @@ use Rattle.rws_wire.specs.Deframing.{Deframing}
 use Rattle.rws_wire.specs.declared.fault.WireFault.TheVariants as faults
 use Rattle.rws_session.specs.Kept.{Kept}
 use Rattle.rws_session.proofs.Replying.{no_reply_yet, bad_reply}
-use Rattle.rws_session.proofs.Answering.{is_answered, from_mid}
+use Rattle.rws_session.proofs.Answering.{has_payload_out, from_mid}
 use Rattle.rws_session.proofs.session.Session.hear_reply.Goals as goal
 
 pub returns-in-Ok-None : goal.returns-in-Ok-None
@@ -18,7 +18,7 @@ returns-in-Ok-Some c = λ past bytes f some. let k = c.args.self.now in let mid 
     let read = rw c.in-Ok-Some.field-0-is at c.in-Ok-Some.ensures.answers in
     on_ok_weaker _ (from_mid k mid c.answer.new.self past bytes c.in-Ok-Some.ensures.rest)
     (c.answer.ensures past bytes
-    (rw c.as_slice.ensures (is_answered k mid past bytes c.in-Ok-Some.field-0-0.bytes c.args.number c.in-Ok-Some.field-0-0.next f read.0 read.1 c.in-Ok-Some.ensures.rest))
+    (rw c.as_slice.ensures (has_payload_out k mid past bytes c.in-Ok-Some.field-0-0.bytes c.args.number c.in-Ok-Some.field-0-0.next f read.0 read.1 c.in-Ok-Some.ensures.rest))
     (ap (λ (now : Kept). now.pending) c.in-Ok-Some.ensures.rest ∙ some))
 
 pub returns-in-Err-OutOfOrder : goal.returns-in-Err-OutOfOrder
