@@ -1,6 +1,6 @@
--- What follows on what came: the other direction of `Causes`. What was taken up, a reply, a fault and a loss are
--- answered by what is given out next; a session that rests has left nothing unanswered but what its server is to answer
--- first.
+-- What follows on what came: the other direction of `Causes`. What was taken up, a reply, a fault and a lost link are
+-- answered by what is given out next. A session that rests has nothing left to answer but the command that its server
+-- has, and what the client sent behind it.
 use Rattle.std.specs.Prelude.{◌≡◌, ℕ, true, false, List, [], ◌∷◌, Some, None, Contains}
 use Rattle.rws_wire.specs.declared.close_reason.CloseReason.TheVariants.{Quit, OutOfOrder, TooLarge, OutcomeUnknown, SessionState}
 use Rattle.rws_wire.specs.declared.drop_cause.DropCause.TheVariants.{BadWire, BadReply, Unasked}
@@ -48,9 +48,9 @@ AnswersReply link payload past =
 abbrev pub GivesBoth : Put → Put → List Item → Type 0
 GivesBoth one other past = Gives one past × Gives other (Puts one ∷ past)
 
--- A fault of the client's stream is told at once, and behind that the session is closed with what the fault says; no
--- other fault is taken up. A link that breaks the rules of packets, or gives a byte that nobody awaited, is given up at
--- once.
+-- The client is told of the fault of its stream that was taken up, which is one of these two, and then the session is
+-- closed with what the fault says. A link whose reply breaks the rules of packets is given up at once, and so is one with
+-- a byte that nobody awaited.
 abbrev pub AnswersFault : List Item → Type 0
 AnswersFault (TakesFault (faults.OutOfOrder want got) ∷ past) =
     GivesBoth (Tells 1 (Refuses PacketsOutOfOrder)) (Closes (OutOfOrder want got)) (TakesFault (faults.OutOfOrder want got) ∷ past)
@@ -85,7 +85,7 @@ pub record HasAnswered (past : List Item) : Type 0 where
       → (first_payload limit command.number (link_unread link past) ≡ Nothing)
       × ¬ IsBadWire command.number (link_unread link past)
 
--- all that came is answered, at once or before the session rests
+-- what came is answered at once, or before the session rests but for what `HasAnswered` leaves
 pub record IsAnswered (past : List Item) : Type 0 where
   pub command : (payload : List ℕ) (number : ℕ) → taken_up past ≡ Some (Arrived payload number)
       → AnswersCommand payload number past

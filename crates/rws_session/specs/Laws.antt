@@ -34,7 +34,7 @@ Apart =
 abbrev pub CausesInRuns : Type 0
 CausesInRuns = (run : List Entry) → IsRun run → (session : ℕ) → AreCaused (record_of session run)
 
--- In a legal record a command, a fault, a reply and a loss are answered by what is given out next, and where the session
--- rests nothing waits for an answer but the command that its server has, and what the client sent behind it.
+-- In a legal record what was taken up, a reply, a fault and a lost link are answered by what is given out next. Where the
+-- session rests nothing is left to answer but the command that its server has, and what the client sent behind it.
 abbrev pub Effects : Type 0
 Effects = (past : List Item) → IsRecord past → IsAnswered past
