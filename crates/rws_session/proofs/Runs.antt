@@ -228,7 +228,7 @@ shortest_error : Gives
 unfolding lenenc full_packet spelling payload_behind first_payload
 shortest_error = gives refl refl
 
--- how a reply ended isn't among what is done outside
+-- how a reply ended, which a run doesn't show
 verdict_of_an_ok : verdict_of (hex (codes "00000002000000")) ≡ Some (Done 2)
 unfolding lenenc
 verdict_of_an_ok = refl
@@ -236,7 +236,7 @@ verdict_of_an_ok = refl
 verdict_of_an_error : verdict_of (hex (codes "ff1504233238303030")) ≡ Some (Failed 1045)
 verdict_of_an_error = refl
 
--- a payload that begins no reply that a session passes on
+-- a payload that begins like none that a session passes on
 no_reply : Gives
     (Begin 1 0 ∷ from_client 1 (codes "020000000378") ∷ on_link 1 (codes "01000001fb") ∷ End ∷ [])
     (to_link 1 (codes "020000000378") ∷ Drop 1 BadReply ∷ Close 1 OutcomeUnknown ∷ [])

@@ -56,7 +56,7 @@ AnswersFault (TakesFault (faults.OutOfOrder want got) ∷ past) =
     GivesBoth (Tells 1 (Refuses PacketsOutOfOrder)) (Closes (OutOfOrder want got)) (TakesFault (faults.OutOfOrder want got) ∷ past)
 AnswersFault (TakesFault (faults.TooLarge length) ∷ past) =
     GivesBoth (Tells 1 (Refuses CommandTooLarge)) (Closes (TooLarge length)) (TakesFault (faults.TooLarge length) ∷ past)
-AnswersFault (TakesFault faults.OutOfMemory ∷ past) = ⊥
+AnswersFault (TakesFault _ ∷ past) = ⊥
 AnswersFault (Garbles link ∷ past) = Gives (Drops link BadWire) (Garbles link ∷ past)
 AnswersFault (Strays link ∷ past) = Gives (Drops link Unasked) (Strays link ∷ past)
 AnswersFault _ = Unit {0}
