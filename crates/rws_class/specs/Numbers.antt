@@ -3,12 +3,9 @@ use Rattle.std.specs.Prelude.{ℕ, Bool, true, false, not, ◌&&◌, ◌||◌, �
 use Rattle.std.specs.List.{list_all}
 use Rattle.std.specs.Char.{is_ascii_digit, is_ascii_hexdigit}
 use Rattle.rws_token.specs.declared.token.TokenKind.TheVariants.{Number, Exec}
+use Rattle.rws_set.specs.Lists.{is_empty}
 use Rattle.rws_set.specs.Seen.{Seen, is_kind, is_symbol}
 use Rattle.rws_class.specs.Places.{Place, is_next, opens}
-
-abbrev pub is_empty : List ℕ → Bool
-is_empty [] = true
-is_empty (b ∷ bs) = false
 
 abbrev pub is_binary : ℕ → Bool
 is_binary b = b == 48 || b == 49

@@ -1,9 +1,10 @@
 -- What a reader of SET's items knows, as what the items do if these tokens are left.
 use Rattle.std.specs.Prelude.{not, ◌&&◌, if◌then◌else◌, List, Some}
 use Rattle.std.specs.List.{list_any, list_all}
+use Rattle.rws_set.specs.Lists.{is_empty}
 use Rattle.rws_set.specs.Seen.{Seen}
 use Rattle.rws_set.specs.Mode.{found_in}
-use Rattle.rws_set.specs.Settings.{value_effect, is_none, is_assigning, is_mode_part, strings, parts_effect, assigned, scoped, item_effect, items_from, joined, total}
+use Rattle.rws_set.specs.Settings.{value_effect, is_assigning, is_mode_part, strings, parts_effect, assigned, scoped, item_effect, items_from, joined, total}
 use Rattle.rws_set.specs.declared.setting.Effect.{Effect}
 use Rattle.rws_set.specs.declared.setting.Effect.TheVariants.{Wrong, Plain}
 use Rattle.rws_set.specs.declared.mode.Search.{Search}
@@ -21,8 +22,8 @@ item_left Scoped ts = scoped ts
 item_left (Named variable) ts = assigned (Some variable) ts
 item_left (Empty variable) ts = value_effect variable ts
 item_left Free ts = if list_any is_assigning ts then Wrong else Plain
-item_left (Whole effect) ts = if is_none ts then effect else Wrong
-item_left (Concat effect) ts = if is_none ts then effect else parts_effect ts
+item_left (Whole effect) ts = if is_empty ts then effect else Wrong
+item_left (Concat effect) ts = if is_empty ts then effect else parts_effect ts
 item_left (Mode search) ts = parts_left search ts
 
 -- the items so far, the one that is read, and those behind it

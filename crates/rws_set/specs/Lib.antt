@@ -1,3 +1,4 @@
+pub mod Lists
 pub mod Seen
 pub mod Words
 pub mod Settings

@@ -1,7 +1,8 @@
 -- SET: which variables of a session it sets, and to what.
-use Rattle.std.specs.Prelude.{ℕ, ◌+◌, ◌-◌, Bool, true, false, not, ◌&&◌, ◌||◌, ◌==◌, if◌then◌else◌, Option, Some, None, List, [], ◌∷◌, codes, take, drop, length}
+use Rattle.std.specs.Prelude.{ℕ, ◌+◌, ◌-◌, Bool, false, not, ◌&&◌, ◌||◌, ◌==◌, if◌then◌else◌, Option, Some, None, List, [], ◌∷◌, codes, take, drop, length}
 use Rattle.std.specs.List.{list_any, list_all, flat_map}
 use Rattle.rws_token.specs.declared.token.TokenKind.TheVariants.{Word, Number, Str, UserVar, SysVar, Assign}
+use Rattle.rws_set.specs.Lists.{is_empty}
 use Rattle.rws_set.specs.Seen.{Seen, is_kind, same_word, is_word, is_symbol, unquoted}
 use Rattle.rws_set.specs.Words.{is_on, is_one_of, words, setting_names, character_sets, mode_words}
 use Rattle.rws_set.specs.declared.setting.Variable.{Variable}
@@ -51,16 +52,12 @@ is_equals t = is_kind t.kind Assign || is_symbol 61 t
 
 -- Values ---------------------------------------------------------------------------------------------
 
-abbrev pub is_none : List Seen → Bool
-is_none [] = true
-is_none (t ∷ ts) = false
-
 abbrev pub is_assigning : Seen → Bool
 is_assigning t = is_kind t.kind Assign
 
 -- a value that nobody looks at: at least one token, and no assignment in it
 abbrev pub free_effect : List Seen → Effect
-free_effect ts = if is_none ts || list_any is_assigning ts then Wrong else Plain
+free_effect ts = if is_empty ts || list_any is_assigning ts then Wrong else Plain
 
 -- what autocommit is set to
 abbrev pub is_digit : List ℕ → Seen → Bool
@@ -77,7 +74,7 @@ switch t = if switches_on t then On else (if switches_off t then Off else Wrong)
 
 abbrev pub autocommit_effect : List Seen → Effect
 autocommit_effect [] = Wrong
-autocommit_effect (t ∷ ts) = if is_none ts then switch t else Wrong
+autocommit_effect (t ∷ ts) = if is_empty ts then switch t else Wrong
 
 -- a word, or a string without its quotes, that reads as a character set of the list
 abbrev pub is_character_set : Seen → Bool
@@ -90,7 +87,7 @@ character_set_of t = if is_character_set t then Plain else Wrong
 
 abbrev pub character_set_effect : List Seen → Effect
 character_set_effect [] = Wrong
-character_set_effect (t ∷ ts) = if is_none ts then character_set_of t else Wrong
+character_set_effect (t ∷ ts) = if is_empty ts then character_set_of t else Wrong
 
 -- one of the words stands at the front of a text
 abbrev pub begins_mode : List (List ℕ) → List ℕ → Bool
@@ -140,7 +137,7 @@ mode_of_word name = if holds_mode mode_words name then Wrong else Plain
 abbrev pub mode_effect : List Seen → Effect
 mode_effect [] = Wrong
 mode_effect (t ∷ ts) =
-    if is_none ts && is_kind t.kind Word then mode_of_word t.bytes else parts_effect (t ∷ ts)
+    if is_empty ts && is_kind t.kind Word then mode_of_word t.bytes else parts_effect (t ∷ ts)
 
 abbrev pub value_effect : Variable → List Seen → Effect
 value_effect kinds.Plain ts = free_effect ts

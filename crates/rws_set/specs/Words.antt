@@ -1,6 +1,5 @@
 -- The lists of words. Their case doesn't count.
-use Rattle.std.specs.Prelude.{ℕ, Bool, ◌&&◌, ◌==◌, if◌then◌else◌, List, [], ◌∷◌, ◌++◌, codes, map}
-use Rattle.std.specs.Borrow.{Bor}
+use Rattle.std.specs.Prelude.{ℕ, Bool, ◌&&◌, ◌==◌, if◌then◌else◌, List, [], ◌∷◌, ◌++◌, codes}
 use Rattle.std.specs.List.{list_any}
 use Rattle.rws_token.specs.declared.token.TokenKind.TheVariants.{Word}
 use Rattle.rws_set.specs.Seen.{Seen, is_kind, same_word}
@@ -72,7 +71,3 @@ is_on names word = list_any (same_word word) names
 -- a word of a list
 abbrev pub is_one_of : List (List ℕ) → Seen → Bool
 is_one_of names t = is_kind t.kind Word && is_on names t.bytes
-
--- a table of the program as lists
-abbrev pub names_of : List (Bor (List (Bor (List ℕ)))) → List (List (List ℕ))
-names_of table = map (λ group. map (λ name. name.now) group.now) table

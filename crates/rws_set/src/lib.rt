@@ -1,4 +1,4 @@
-// The lists of words that the rules on statements know, and what the items of a SET set.
+//! The lists of words that the rules on statements know, and what the items of a SET set.
 #![tactic(auto)]
 
 mod item;

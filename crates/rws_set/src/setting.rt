@@ -1,12 +1,12 @@
 // The items of a SET: variables, and what they are set to.
 
-ghost use Rattle.std.specs.Prelude.{◌≡◌, ◌+◌, ◌^◌, ◌<◌, drop, length, take};
+ghost use Rattle.std.specs.Prelude.{◌≡◌, ◌+◌, ◌^◌, ◌<◌, drop, take};
 ghost use Rattle.std.specs.List.{list_any};
-ghost use Rattle.rws_set.specs.Seen.{Seen, seen, is_symbol};
+ghost use Rattle.rws_set.specs.Seen.{seen};
 ghost use Rattle.rws_set.specs.Settings.{target_of, named, without_scope, word_target, target, is_scope, is_equals, is_digit, switches_on, switches_off, switch, is_character_set, begins_scope, is_global, last_part_from, last_part, is_backslash, is_mode_symbol, is_mode_part, depth_behind, parts_item, joined};
 
 use crate::lexeme::{Lexeme, is_kind, is_symbol, is_word, same_word, unquoted};
-use crate::table::{is_character_set as is_set_name, is_setting};
+use crate::table::{is_character_set_name, is_setting};
 use rws_token::TokenKind;
 
 /// What is set, as far as the rules on values differ.
@@ -146,13 +146,13 @@ fn is_digit(lexeme: &Lexeme<'_>, digit: &[u8]) -> bool
     is_kind(lexeme, TokenKind::Number) && same_word(lexeme.bytes, digit)
 }
 
-fn is_on(lexeme: &Lexeme<'_>) -> bool
+fn switches_on(lexeme: &Lexeme<'_>) -> bool
     ensures { result ≡ switches_on (seen lexeme.now) }
 {
     is_digit(lexeme, b"1") || is_word(lexeme, b"ON") || is_word(lexeme, b"TRUE")
 }
 
-fn is_off(lexeme: &Lexeme<'_>) -> bool
+fn switches_off(lexeme: &Lexeme<'_>) -> bool
     ensures { result ≡ switches_off (seen lexeme.now) }
 {
     is_digit(lexeme, b"0") || is_word(lexeme, b"OFF") || is_word(lexeme, b"FALSE")
@@ -162,9 +162,9 @@ fn is_off(lexeme: &Lexeme<'_>) -> bool
 pub(crate) fn switch(lexeme: &Lexeme<'_>) -> Effect
     ensures { result ≡ switch (seen lexeme.now) }
 {
-    if is_on(lexeme) {
+    if switches_on(lexeme) {
         Effect::On
-    } else if is_off(lexeme) {
+    } else if switches_off(lexeme) {
         Effect::Off
     } else {
         Effect::Wrong
@@ -176,8 +176,8 @@ pub fn is_character_set(lexeme: &Lexeme<'_>) -> bool
     ensures { result ≡ is_character_set (seen lexeme.now) }
 {
     match lexeme.kind {
-        TokenKind::Word => is_set_name(lexeme.bytes),
-        TokenKind::Str => is_set_name(unquoted(lexeme.bytes)),
+        TokenKind::Word => is_character_set_name(lexeme.bytes),
+        TokenKind::Str => is_character_set_name(unquoted(lexeme.bytes)),
         _ => false,
     }
 }

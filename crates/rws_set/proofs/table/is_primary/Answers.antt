@@ -1,9 +1,7 @@
-use Rattle.std.proofs.Common.{refl, ◌∙◌}
 use Rattle.rws_set.specs.Words.{primary_names}
-use Rattle.rws_set.proofs.Tables.{is_on-grouped, grouped}
 use Rattle.rws_set.proofs.table.is_primary.Goals as goal
 
--- the table is the list's names by their lengths
+-- the program's list is the list of words
 pub returns : goal.returns
-unfolding primary_names grouped
-returns c = c.contains.ensures ∙ is_on-grouped 15 primary_names c.args.word.now refl
+unfolding primary_names
+returns c = c.is_among.ensures

@@ -1,9 +1,7 @@
-use Rattle.std.proofs.Common.{refl, ◌∙◌}
 use Rattle.rws_set.specs.Words.{pure_names}
-use Rattle.rws_set.proofs.Tables.{is_on-grouped, grouped}
 use Rattle.rws_set.proofs.table.is_pure.Goals as goal
 
--- the table is the list's names by their lengths
+-- the program's list is the list of words
 pub returns : goal.returns
-unfolding pure_names grouped
-returns c = c.contains.ensures ∙ is_on-grouped 18 pure_names c.args.word.now refl
+unfolding pure_names
+returns c = c.is_among.ensures

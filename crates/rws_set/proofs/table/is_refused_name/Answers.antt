@@ -1,9 +1,7 @@
-use Rattle.std.proofs.Common.{refl, ◌∙◌}
 use Rattle.rws_set.specs.Words.{refused_names}
-use Rattle.rws_set.proofs.Tables.{is_on-grouped, grouped}
 use Rattle.rws_set.proofs.table.is_refused_name.Goals as goal
 
--- the table is the list's names by their lengths
+-- the program's list is the list of words
 pub returns : goal.returns
-unfolding refused_names grouped
-returns c = c.contains.ensures ∙ is_on-grouped 31 refused_names c.args.word.now refl
+unfolding refused_names
+returns c = c.is_among.ensures
