@@ -1,4 +1,5 @@
--- What stands at the front of a text: the longest token, or white space, or a comment.
+-- What stands at the front of a text: the longest token, or white space, or a comment. A title in quotes
+-- is that of a page of MariaDB's documentation.
 use Rattle.std.specs.Prelude.{ℕ, ◌+◌, Bool, true, false, ◌&&◌, ◌||◌, ◌==◌, ◌≤◌, if◌then◌else◌, Option, Some, None, List, [], ◌∷◌}
 use Rattle.std.specs.Char.{is_ascii_digit}
 use Rattle.rws_token.specs.Bytes.{is_white, is_word_start, ends_dashes}
@@ -15,6 +16,7 @@ closed kind opening None = Endless
 closed kind opening (Some n) = Lexeme kind (opening + n)
 
 -- two dashes begin a comment at the end of the text, and where a blank or a control character follows
+-- ("Comment Syntax")
 abbrev pub dashes_end : List ℕ → Bool
 dashes_end [] = true
 dashes_end (b ∷ bs) = ends_dashes b
@@ -23,7 +25,7 @@ abbrev pub behind_dash : List ℕ → Piece
 behind_dash [] = Lexeme Symbol 1
 behind_dash (b ∷ bs) = if b == 45 && dashes_end bs then Gap (2 + run_len Line bs) else Lexeme Symbol 1
 
--- a comment that a server executes begins with `!` or `M!`
+-- a comment that a server executes begins with `!` or `M!` ("Comment Syntax")
 abbrev pub is_executable : List ℕ → Bool
 is_executable [] = false
 is_executable (b ∷ bs) = b == 33 || (b == 77 && begins_with 33 bs)
@@ -36,7 +38,7 @@ abbrev pub behind_slash : List ℕ → Piece
 behind_slash [] = Lexeme Symbol 1
 behind_slash (b ∷ bs) = if b == 42 then comment_piece (is_executable bs) (comment_end 0 bs) else Lexeme Symbol 1
 
--- behind `@@`
+-- behind `@@`: its name, with its scope if one is written ("System Variables")
 abbrev pub system_variable : List ℕ → Piece
 system_variable [] = Endless
 system_variable (b ∷ bs) = if is_word_start b then Lexeme SysVar (3 + words_len 0 bs) else Endless
@@ -44,6 +46,7 @@ system_variable (b ∷ bs) = if is_word_start b then Lexeme SysVar (3 + words_le
 abbrev pub is_quote : ℕ → Bool
 is_quote b = b == 39 || (b == 34 || b == 96)
 
+-- behind `@`: a second one, a name in quotes, or one without ("User-Defined Variables")
 abbrev pub behind_at : List ℕ → Piece
 behind_at [] = Lexeme Symbol 1
 behind_at (b ∷ bs) =
@@ -59,7 +62,8 @@ abbrev pub behind_dot : List ℕ → Piece
 behind_dot [] = Lexeme Symbol 1
 behind_dot (b ∷ bs) = if is_ascii_digit b then Lexeme Number (2 + run_len number_run bs) else Lexeme Symbol 1
 
--- by its first byte, and the bytes behind it
+-- By its first byte, and the bytes behind it: 39 and 34 are the quotes of a string ("String Literals"), 96 is
+-- that of a name ("Identifier Names"), and 35 begins a comment ("Comment Syntax").
 abbrev pub piece_at : ℕ → List ℕ → Piece
 piece_at b bs =
     if is_white b then Gap 1

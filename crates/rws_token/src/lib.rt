@@ -1,4 +1,5 @@
-// Cuts a statement's text into tokens, as MariaDB's lexical structure has them, without memory.
+//! Cuts a statement's text into tokens, after MariaDB's lexical structure, without memory. Where it
+//! differs from a server's own scan, `docs/DECISIONS.md` says so.
 #![tactic(auto)]
 
 mod byte;

@@ -23,7 +23,7 @@ pub enum TokenKind {
     Exec,
 }
 
-/// A token: its kind, and its bytes' places in the text, from `start` up to `end`.
+/// A token: its kind, and its bytes' places in the text, from `start` up to `end`, which isn't included.
 #[derive(Clone, Copy, Debug, PartialEq, Eq)]
 pub struct Token {
     pub kind: TokenKind,
