@@ -33,11 +33,12 @@ is_of_server p =
     is_named (words (codes "INFORMATION_SCHEMA PERFORMANCE_SCHEMA")) p.this
     || (is_named (words (codes "MYSQL SYS")) p.this && is_next (is_symbol 46) p)
 
--- what a connection knows of itself
+-- what a connection, or its server, knows of itself
 abbrev pub asks_connection : Place → Bool
 asks_connection p =
     (is_kind p.this.kind SysVar || is_primary_call p) || is_word (codes "SQL_CALC_FOUND_ROWS") p.this
 
+-- what may differ from server to server
 abbrev pub needs_primary : Place → Bool
 needs_primary p = asks_connection p || is_of_server p
 

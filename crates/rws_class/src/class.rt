@@ -3,9 +3,10 @@
 /// What a statement may do, as far as routing and replay need to know it.
 #[derive(Clone, Copy, Debug, PartialEq, Eq)]
 pub enum Class {
-    /// Reads tables and nothing of its connection, so any server may answer it.
+    /// Changes nothing, and reads tables and the session's own settings: any connection on which those
+    /// were set may answer it.
     Read,
-    /// Reads, but something that only the connection to the primary knows.
+    /// Reads, but something that may differ from server to server.
     PrimaryRead,
     /// Changes rows or locks them, inside the current transaction.
     Write,

@@ -1,4 +1,4 @@
-// The class of a statement: where it may be sent, and what it may change there.
+//! The class of a statement: where it may be sent, and what it may change there.
 #![tactic(auto)]
 
 mod class;

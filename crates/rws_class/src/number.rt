@@ -95,10 +95,7 @@ fn is_plain(signed: bool, bytes: &[u8]) -> bool
 fn is_signed(window: &Window<'_>) -> bool
     ensures { result ≡ is_next is_sign (place window.now) }
 {
-    match &window.next {
-        Some(next) => is_symbol(next, b'+') || is_symbol(next, b'-'),
-        None => false,
-    }
+    is_next_symbol(window, b'+') || is_next_symbol(window, b'-')
 }
 
 fn is_odd_number(window: &Window<'_>) -> bool

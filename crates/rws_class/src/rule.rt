@@ -1,13 +1,13 @@
 // What the rules on a statement ask of each token.
 
 ghost use Rattle.std.specs.Prelude.{◌≡◌, [], ◌∷◌, codes};
-ghost use Rattle.rws_set.specs.Seen.{seen, is_word};
-ghost use Rattle.rws_set.specs.Words.{is_on, is_one_of, words};
+ghost use Rattle.rws_set.specs.Seen.{seen};
+ghost use Rattle.rws_set.specs.Words.{is_one_of, words};
 ghost use Rattle.rws_class.specs.Places.{place, is_next, is_named};
 ghost use Rattle.rws_class.specs.Rules.{reaches_out, is_sequence, is_no_query, locks_rows, is_of_server, asks_connection, needs_primary, is_assign, ends_columns, is_no_ddl, is_source};
 
 use crate::window::{Window, is_foreign_call, is_next_symbol, is_next_word, is_primary_call};
-use rws_set::{Lexeme, is_kind, is_word, same_word, unquoted};
+use rws_set::{Lexeme, is_among, is_kind, is_word, unquoted};
 use rws_token::TokenKind;
 
 pub(crate) fn is_assign(window: &Window<'_>) -> bool
@@ -59,16 +59,10 @@ fn is_named(lexeme: &Lexeme<'_>, one: &[u8], other: &[u8]) -> bool
     ensures { result ≡ is_named (one.now ∷ other.now ∷ []) (seen lexeme.now) }
 {
     match lexeme.kind {
-        TokenKind::Word => is_either(lexeme.bytes, one, other),
-        TokenKind::Quoted => is_either(unquoted(lexeme.bytes), one, other),
+        TokenKind::Word => is_among(&[one, other], lexeme.bytes),
+        TokenKind::Quoted => is_among(&[one, other], unquoted(lexeme.bytes)),
         _ => false,
     }
-}
-
-fn is_either(name: &[u8], one: &[u8], other: &[u8]) -> bool
-    ensures { result ≡ is_on (one.now ∷ other.now ∷ []) name.now }
-{
-    same_word(name, one) || same_word(name, other)
 }
 
 /// Whether it is of the tables that say what a server itself does or holds.
@@ -79,13 +73,14 @@ fn is_of_server(window: &Window<'_>) -> bool
         || is_named(&window.this, b"MYSQL", b"SYS") && is_next_symbol(window, b'.')
 }
 
-/// Whether a query asks for what only the primary's connection knows.
+/// Whether a query asks for what may differ from server to server.
 pub(crate) fn needs_primary(window: &Window<'_>) -> bool
     ensures { result ≡ needs_primary (place window.now) }
 {
     asks_connection(window) || is_of_server(window)
 }
 
+/// Whether it asks a connection or its server of itself, which may differ from server to server.
 fn asks_connection(window: &Window<'_>) -> bool
     ensures { result ≡ asks_connection (place window.now) }
 {

@@ -2,7 +2,6 @@
 
 ghost use Rattle.std.specs.Prelude.{◌≡◌};
 ghost use Rattle.rws_set.specs.Seen.{seen, is_word, is_symbol};
-ghost use Rattle.rws_set.specs.Words.{is_on};
 ghost use Rattle.rws_class.specs.Places.{place, is_next, is_name, opens, stands_bare, is_call, is_known, is_primary_call, is_foreign_call};
 
 use rws_set::{Lexeme, is_key_word, is_kind, is_primary, is_pure, is_symbol, is_word};
@@ -56,7 +55,7 @@ fn stands_bare(window: &Window<'_>) -> bool
     is_kind(&window.this, TokenKind::Word) && !window.after_dot
 }
 
-pub(crate) fn is_call(window: &Window<'_>) -> bool
+fn is_call(window: &Window<'_>) -> bool
     ensures { result ≡ is_call (place window.now) }
 {
     is_name(&window.this)

@@ -36,7 +36,7 @@ pure_names =
     ++ words (codes "TIMESTAMPDIFF TRIM TRUNCATE UCASE UNHEX UNIX_TIMESTAMP UPPER USER UTC_TIMESTAMP UUID")
     ++ words (codes "WEEK WEEKDAY YEAR")
 
--- functions whose answer only the primary's connection knows
+-- functions whose answer may differ from server to server
 unfoldable pub primary_names : List (List ℕ)
 primary_names = words (codes "CONNECTION_ID FOUND_ROWS LAST_INSERT_ID ROW_COUNT VERSION")
 

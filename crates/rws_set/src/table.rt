@@ -162,7 +162,7 @@ const PURE_NAMES: [&[u8]; 110] = [
     b"YEAR",
 ];
 
-/// Functions whose answer only the primary's connection knows.
+/// Functions whose answer may differ from server to server.
 const PRIMARY_NAMES: [&[u8]; 5] = [
     b"CONNECTION_ID",
     b"FOUND_ROWS",
@@ -238,7 +238,7 @@ pub fn is_pure(word: &[u8]) -> bool
     is_among(&PURE_NAMES, word)
 }
 
-/// Whether it is a function whose answer only the primary's connection knows.
+/// Whether it is a function whose answer may differ from server to server.
 pub fn is_primary(word: &[u8]) -> bool
     ensures { result ≡ is_on primary_names word.now }
 {
