@@ -1,6 +1,6 @@
--- How a history grows: its words, the calls of a pass, and the answers to them.
-use Rattle.std.proofs.Common.{◌≡◌, ◌≢◌, ℕ, List, [], ◌∷◌, ◌++◌, Bool, true, false, ◌==◌, map, filter, refl, sym, ap, ◌∙◌, eq-eqb, ne_eqb, append_assoc, cond, nat_lt}
-use Rattle.std.proofs.lemmas.List.{map-append, append-nil}
+-- How a history grows: its words, and the calls of a pass.
+use Rattle.std.proofs.Common.{◌≡◌, ◌≢◌, ℕ, List, [], ◌∷◌, ◌++◌, Bool, true, false, ◌==◌, map, filter, refl, ap, ◌∙◌, eq-eqb, ne_eqb, cond, nat_lt}
+use Rattle.std.proofs.lemmas.List.{map-append}
 use Rattle.std.proofs.lemmas.List.Elements.{filter-append}
 use Rattle.rws_gtid.specs.declared.Gtid.{Gtid}
 use Rattle.rws_pool.specs.declared.words.PoolWords.{PoolWords}
@@ -8,11 +8,7 @@ use Rattle.rws_pool.specs.declared.events.PoolEvent.{PoolEvent}
 use Rattle.rws_pool.specs.declared.events.PoolEvent.TheVariants.{Route, Record, Observe}
 use Rattle.rws_pool.specs.declared.events.Entry.{Entry}
 use Rattle.rws_pool.specs.Machine.{new_words, later, pool_step, pool_from}
-use Rattle.rws_pool.specs.History.{entry, words_after, calls_by, answer_if, answers_from, answers_by}
-
--- the words from these on
-abbrev words_from : PoolWords → List Entry → PoolWords
-words_from words history = pool_from words (map (λ (e : Entry). e.event) history)
+use Rattle.rws_pool.specs.History.{entry, words_after, calls_by}
 
 pub pool_from-push : (words : PoolWords) (h : List Entry) (e : Entry)
     → pool_from words (map (λ (x : Entry). x.event) (h ++ e ∷ [])) ≡ pool_step (pool_from words (map (λ (x : Entry). x.event) h)) e.event
@@ -53,32 +49,3 @@ module _ (pass : ℕ) where
 
   pub calls_by-other : (n : ℕ) (event : PoolEvent) → n ≢ pass → calls_by pass (entry n event ∷ []) ≡ []
   calls_by-other n event apart = ap (λ (b : Bool). map (λ (e : Entry). e.event) (cond b (entry n event ∷ []) [])) (ne_eqb n pass apart)
-
-  answers_from-append : (words : PoolWords) (xs ys : List Entry) → answers_from words pass (xs ++ ys) ≡ answers_from words pass xs ++ answers_from (words_from words xs) pass ys
-  answers_from-append words [] ys = refl
-  answers_from-append words (x ∷ xs) ys =
-      let answer = answer_if (x.pass == pass) words x.event in
-      ap (λ (rest : List PoolWords). answer ++ rest) (answers_from-append (pool_step words x.event) xs ys)
-      ∙ sym (append_assoc answer (answers_from (pool_step words x.event) pass xs) (answers_from (words_from (pool_step words x.event) xs) pass ys))
-
-  -- who made no call was answered nothing
-  answers_from-silent : (words : PoolWords) (xs : List Entry) → calls_by pass xs ≡ [] → answers_from words pass xs ≡ []
-  answers_from-silent words [] none = refl
-  answers_from-silent words (x ∷ xs) none = go (x.pass == pass) none (λ none'. answers_from-silent (pool_step words x.event) xs none')
-    where
-      go : (b : Bool) → map (λ (e : Entry). e.event) (cond b (x ∷ filter (λ (e : Entry). e.pass == pass) xs) (filter (λ (e : Entry). e.pass == pass) xs)) ≡ []
-          → (calls_by pass xs ≡ [] → answers_from (pool_step words x.event) pass xs ≡ [])
-          → answer_if b words x.event ++ answers_from (pool_step words x.event) pass xs ≡ []
-      go true some rest = absurd (cc)
-      go false none rest = rest none
-
-  -- a call of the pass behind others' calls adds its answer
-  pub answers_by-call : (domain : ℕ) (seen between : List Entry) (event : PoolEvent) → calls_by pass between ≡ []
-      → answers_by domain pass ((seen ++ between) ++ entry pass event ∷ []) ≡ answers_by domain pass seen ++ answer_if true (words_after domain (seen ++ between)) event
-  answers_by-call domain seen between event none =
-      let start = new_words domain in
-      let here = words_after domain (seen ++ between) in
-      answers_from-append start (seen ++ between) (entry pass event ∷ [])
-      ∙ ap (λ (xs : List PoolWords). xs ++ answers_from here pass (entry pass event ∷ []))
-      (answers_from-append start seen between ∙ ap (λ (xs : List PoolWords). answers_by domain pass seen ++ xs) (answers_from-silent (words_from start seen) between none) ∙ append-nil (answers_by domain pass seen))
-      ∙ ap (λ (xs : List PoolWords). answers_by domain pass seen ++ xs) (ap (λ (b : Bool). answer_if b here event ++ []) (same_pass pass) ∙ append-nil (answer_if true here event))

@@ -1,12 +1,12 @@
--- One history of the pool events of all passes, and what it answers.
-use Rattle.std.specs.Prelude.{ℕ, List, [], ◌∷◌, ◌++◌, Bool, true, ◌==◌, map, filter}
+-- One history of the pool events of all passes, and the words after it.
+use Rattle.std.specs.Prelude.{ℕ, List, ◌==◌, map, filter}
 use Rattle.rws_pool.specs.declared.words.PoolWords.{PoolWords}
 use Rattle.rws_pool.specs.declared.events.PoolCall.{PoolCall}
 use Rattle.rws_pool.specs.declared.events.PoolCall.TheVariants as call
 use Rattle.rws_pool.specs.declared.events.PoolEvent.{PoolEvent}
 use Rattle.rws_pool.specs.declared.events.PoolEvent.TheVariants.{Route, Record, Observe}
 use Rattle.rws_pool.specs.declared.events.Entry.{Entry}
-use Rattle.rws_pool.specs.Machine.{new_words, pool_step, pool_after}
+use Rattle.rws_pool.specs.Machine.{pool_after}
 
 -- the event of a call; the session isn't part of it
 abbrev pub event_of : PoolCall → PoolEvent
@@ -24,16 +24,3 @@ words_after domain history = pool_after domain (map (λ (e : Entry). e.event) hi
 -- the events of one pass, in order
 abbrev pub calls_by : ℕ → List Entry → List PoolEvent
 calls_by pass history = map (λ (e : Entry). e.event) (filter (λ (e : Entry). e.pass == pass) history)
-
--- what a Route is answered: the words there
-abbrev pub answer_if : Bool → PoolWords → PoolEvent → List PoolWords
-answer_if true words Route = words ∷ []
-answer_if _ words event = []
-
--- the answers to the Routes of one pass, from these words on
-abbrev pub answers_from : PoolWords → ℕ → List Entry → List PoolWords
-answers_from words pass [] = []
-answers_from words pass (e ∷ history) = answer_if (e.pass == pass) words e.event ++ answers_from (pool_step words e.event) pass history
-
-abbrev pub answers_by : ℕ → ℕ → List Entry → List PoolWords
-answers_by domain pass history = answers_from (new_words domain) pass history

@@ -1,5 +1,5 @@
 // The words of the pool and the three steps on them.
-ghost use Rattle.std.specs.Prelude.{◌≡◌, ℕ, ◌<◌, nat_lt, if◌then◌else◌};
+ghost use Rattle.std.specs.Prelude.{◌≡◌, ◌<◌, nat_lt, if◌then◌else◌};
 ghost use Rattle.rws_pool.specs.Machine.{new_words, later, raised, observed, recorded, each_observed, pool_step, CanStep};
 
 use crate::events::PoolEvent;

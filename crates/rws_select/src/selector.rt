@@ -1,5 +1,5 @@
 // The stored scoring function and the choice that rests on it.
-ghost use Rattle.std.specs.Prelude.{◌≡◌, ℕ, ◌+◌, List, Option, [], ◌∷◌, ◌++◌, length, MatchOption};
+ghost use Rattle.std.specs.Prelude.{◌≡◌, List, Option, [], ◌∷◌, ◌++◌, length, MatchOption};
 ghost use Rattle.rws_select.specs.declared.selector.Load.{Load};
 ghost use Rattle.rws_select.specs.Choice.{IsScorer, HasScorer, HasNone, IsChoice};
 ghost use Rattle.rws_select.specs.Scored.{IsBest};
@@ -35,7 +35,8 @@ impl<F: Fn(&Load) -> u64 + Sync> Selector<F> {
         Selector { score }
     }
 
-    /// The index of the best candidate. None exactly where there is no candidate.
+    /// The index of the candidate of least score, the lowest index at a tie. None exactly where there is no
+    /// candidate.
     pub fn choose(&self, candidates: &[Option<Load>; 7]) -> Option<u8>
         requires { HasScorer F.Fn self.now }
         ensures { MatchOption result (HasNone candidates.now) (λ place. IsChoice candidates.now place) }
@@ -48,7 +49,7 @@ impl<F: Fn(&Load) -> u64 + Sync> Selector<F> {
         best.map(|scored| scored.place)
     }
 
-    // The better of the best so far and the next server, which has to be a candidate and strictly below it.
+    // The one of least score so far, or the next server, where that is a candidate with a lower score.
     fn better(&self, best: Option<Scored>, place: u8, next: Option<Load>) -> Option<Scored>
         requires { HasScorer F.Fn self.now }
         ensures { (seen : List (Option Load)) → length seen ≡ place → IsBest seen best → IsBest (seen ++ next ∷ []) result }
