@@ -57,13 +57,14 @@ impl PoolCell {
         Ok((PoolCell { domain, cell }, Pass { seat }))
     }
 
-    /// The words as they are now.
+    /// The words at this call's place in the history.
     pub fn route<R: Wait>(&self, rt: &R, pass: &mut Pass) -> PoolWords
         requires { pass.old.cell ≡ self.now.cell }
         ensures cell { pass.new.cell ≡ pass.old.cell }
         ensures call { Extends pass.old.view Route pass.new.view }
         ensures words { result ≡ words_after self.now.domain pass.new.view.seen }
         ensures keeps { NotBelow (words_after self.now.domain pass.old.view.seen) result }
+        ensures domain { result.last.domain ≡ self.now.domain }
     {
         seat::route(rt, &self.cell, &mut pass.seat, self.domain)
     }

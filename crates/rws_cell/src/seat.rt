@@ -1,10 +1,9 @@
 // The steps of a seat at the cell, in terms of its view.
-ghost use Rattle.std.specs.Prelude.{◌≡◌, ◌^◌, ◌<◌, [], true, slice_index, IfOk, MatchResult};
+ghost use Rattle.std.specs.Prelude.{◌≡◌, ◌^◌, ◌<◌, true, slice_index, IfOk, MatchResult};
 ghost use Rattle.crossbeam_utils.specs.Seq.{cell_view, IsSamePass};
 ghost use Rattle.rws_pool.specs.Machine.{CanStep, NotBelow};
 ghost use Rattle.rws_pool.specs.History.{words_after};
 ghost use Rattle.rws_pool.specs.declared.events.PoolEvent.TheVariants.{Route};
-ghost use Rattle.rws_cell.specs.Packing.{packed_words};
 ghost use Rattle.rws_cell.specs.Views.{first_view, left_half, right_half, IsWhole, Extends, Joins};
 ghost use Rattle.rws_cell.specs.Rule.{Learned, Steps};
 
@@ -30,6 +29,7 @@ pub fn route<R: Wait>(rt: &R, cell: &Cell, seat: &mut Seat, domain: u32) -> Pool
     ensures call { Extends (cell_view seat.old) Route (cell_view seat.new) }
     ensures words { result ≡ words_after domain (cell_view seat.new).seen }
     ensures keeps { NotBelow (words_after domain (cell_view seat.old).seen) result }
+    ensures domain { result.last.domain ≡ domain }
 {
     let packed = cell.load_as::<Routes, R>(rt, seat);
     unpack(domain, &packed)

@@ -9,21 +9,27 @@ use std::marker::{Brand, PhantomData};
 
 /// A pass that was joined into another: its number and its calls.
 pub struct Part {
+    /// The number under which its calls stand.
     pub number: u64,
+    /// Its calls, in the order of the history.
     pub calls: LinkedList<PoolEvent>,
 }
 
 /// What a pass has seen of the history, and its own calls in it.
 pub struct View {
+    /// Whether the pass is in use. One that was handed over to a join has no numbers and no calls.
     pub live: bool,
     /// The number under which its calls stand.
     pub number: u64,
     /// The distance of the numbers that it may give away.
     pub step: u64,
+    /// The history up to the last entry that it knows of.
     pub seen: LinkedList<Entry>,
     /// A shorter history that begins the one seen.
     pub told: LinkedList<Entry>,
+    /// Its own calls, in the order of the history.
     pub mine: LinkedList<PoolEvent>,
+    /// The passes that were joined into it, and those that had been joined into them.
     pub joined: LinkedList<Part>,
 }
 
@@ -67,6 +73,7 @@ pub trait Call {
     ghost before: { List ℕ };
 }
 
+// A placeholder, so that `exchange` can be called at a type: `attempt` picks the real call and words.
 impl Call for Brand {
     ghost use Rattle.std.specs.Prelude.{[]};
     ghost use Rattle.rws_pool.specs.declared.events.PoolEvent.TheVariants.{Route};

@@ -9,6 +9,10 @@ use rws_pool::{PoolWords, Seen, State};
 use rws_select::{Load, Selector};
 
 /// The target of a command. `loads` is by index; bit k of `tried` and `banned` stands for server k.
+///
+/// `sent_back`: a replica didn't reach in time what the command has to see, so the primary answers it.
+/// `tried`: servers that this command was sent to already; it goes to none of them again. `banned`: servers
+/// that take no reads for now; a banned server is no candidate for a read, and still serves as the primary.
 pub fn target<F: Fn(&Load) -> u64 + Sync>(
     class: Class,
     autocommit: bool,

@@ -1,5 +1,6 @@
-use Rattle.std.proofs.Common.{rules, sym, subst}
+use Rattle.std.proofs.Common.{rules, sym, subst, ap, ◌∙◌}
 use Rattle.rws_pool.specs.Machine.{NotBelow}
+use Rattle.rws_pool.specs.declared.words.PoolWords.{PoolWords}
 use Rattle.rws_pool.specs.declared.events.PoolEvent.TheVariants.{Route}
 use Rattle.rws_cell.proofs.Histories.{extends_keeps}
 use Rattle.crossbeam_utils.specs.Seq.{cell_view}
@@ -20,3 +21,8 @@ pub returns-clause-keeps : goal.returns-clause-keeps
 returns-clause-keeps g c =
     let words = returns-clause-words g c in
     subst (NotBelow (words_after c.args.domain (cell_view c.args.seat.now).seen)) (sym words) (extends_keeps c.args.domain (cell_view c.args.seat.now) (cell_view c.load_as-packed.new.pass) Route c.load_as-packed.ensures.rule.extended)
+
+pub returns-clause-domain : goal.returns-clause-domain
+returns-clause-domain g c =
+    let seen = (cell_view c.load_as-packed.new.pass).seen in
+    ap (λ (words : PoolWords). words.last.domain) (returns-clause-words g c) ∙ words_after-domain c.args.domain seen
