@@ -10,9 +10,9 @@ use rws_select::{Load, Selector};
 
 /// The target of a command. `loads` is by index; bit k of `tried` and `banned` stands for server k.
 ///
-/// `sent_back`: a replica didn't reach in time what the command has to see, so the primary answers it.
-/// `tried`: servers that this command was sent to already; it goes to none of them again. `banned`: servers
-/// that take no reads for now; a banned server is no candidate for a read, and still serves as the primary.
+/// `sent_back`: a replica didn't reach in time what the command has to see, so the primary is to answer it. `tried`: the
+/// servers whose link was lost with this command; it goes to none of them again. `banned`: the servers that answered a
+/// setting of this session otherwise than the primary did; they are no candidates for its reads, and still serve as primary.
 pub fn target<F: Fn(&Load) -> u64 + Sync>(
     class: Class,
     autocommit: bool,
