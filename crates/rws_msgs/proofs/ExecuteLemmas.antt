@@ -5,7 +5,7 @@ use Rattle.rws_wire.specs.Numbers.{bytes_of}
 use Rattle.rws_msgs.specs.declared.fault.MsgFault.{MsgFault}
 use Rattle.rws_msgs.specs.declared.fault.MsgFault.TheVariants.{BadTag}
 use Rattle.rws_msgs.specs.declared.execute_head.ExecuteHead.{ExecuteHead}
-use Rattle.rws_msgs.specs.Reading.{◌>>=◌}
+use Rattle.rws_wire.specs.Reading.{◌>>=◌}
 use Rattle.rws_msgs.specs.Fields.{bytes_at, fixed_at, number_at}
 use Rattle.rws_msgs.specs.ExecuteLayout.{once_at, types_at, values_at, execute_at, types_bytes, values_bytes, execute_bytes}
 use Rattle.rws_msgs.specs.ExecuteParts.{ExecuteFits}

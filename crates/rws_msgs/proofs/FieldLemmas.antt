@@ -8,7 +8,7 @@ use Rattle.rws_wire.proofs.NumberLemmas.{length-bytes_of, number_of-bytes_of}
 use Rattle.rws_wire.proofs.LenencLemmas.{lenenc-lenenc_bytes}
 use Rattle.rws_msgs.specs.declared.fault.MsgFault.{MsgFault}
 use Rattle.rws_msgs.specs.declared.fault.MsgFault.TheVariants.{Short}
-use Rattle.rws_msgs.specs.Reading.{◌>>=◌}
+use Rattle.rws_wire.specs.Reading.{◌>>=◌}
 use Rattle.rws_msgs.specs.Fields.{bytes_at, number_at, fixed_at, integer_or_fault, lenenc_at, text_at, text_bytes, ended, zero_text_at, HasNoZero}
 
 -- the value of a step that did not fail

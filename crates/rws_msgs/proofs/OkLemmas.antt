@@ -1,11 +1,11 @@
 -- An OK that was decoded is decoded again from what `encode` writes.
 use Rattle.std.proofs.Common.{◌≡◌, ℕ, ◌^◌, ◌<◌, Bool, true, false, List, [], ◌∷◌, ◌++◌, length, Ok, refl, sym, ap, subst, ◌∙◌}
-use Rattle.std.specs.Prelude.{◌&&◌, if◌then◌else◌}
+use Rattle.std.specs.Prelude.{◌&&◌}
 use Rattle.std.proofs.lemmas.List.{append-nil}
 use Rattle.rws_wire.specs.Numbers.{bytes_of}
 use Rattle.rws_wire.specs.Lenenc.{lenenc, lenenc_bytes}
 use Rattle.rws_msgs.specs.declared.ok_msg.OkMsg.{OkMsg}
-use Rattle.rws_msgs.specs.Reading.{◌>>=◌}
+use Rattle.rws_wire.specs.Reading.{◌>>=◌}
 use Rattle.rws_msgs.specs.Fields.{fixed_at, number_at, lenenc_at, text_at, text_bytes, ended}
 use Rattle.rws_msgs.specs.OkLayout.{OkFits, states, state_at, texts_at, texts_bytes, ok_at, ok_bytes}
 use Rattle.rws_msgs.proofs.FieldLemmas.{bind_ok, ok_is, ended_is, fixed_again, number_again, lenenc_again, text_again}
@@ -20,22 +20,24 @@ unfolding texts_at text_at lenenc_at lenenc
 texts_at_step stated [] info rest e = absurd cc
 texts_at_step stated (byte ∷ bytes) info rest e = ap (λ r. r >>= λ text. state_at stated text.1 >>= λ state. ended (text.0, state.0) state.1) e
 
-texts_written : (stated : Bool) (info state : List ℕ) → length info < 2 ^ 64 → length state < 2 ^ 64 → NoState stated state
-    → texts_at stated (text_bytes info ++ (if stated then text_bytes state else [])) ≡ Ok (info, state)
-unfolding state_at ended NoState
-texts_written true info state info_fits state_fits none =
+info_written : (info : List ℕ) → length info < 2 ^ 64 → texts_at false (text_bytes info) ≡ Ok (info, [])
+unfolding state_at ended
+info_written info fits = texts_at_step false (text_bytes info) info [] (ap text_at (sym (append-nil (text_bytes info))) ∙ text_again info [] fits)
+
+both_written : (info state : List ℕ) → length info < 2 ^ 64 → length state < 2 ^ 64 → texts_at true (text_bytes info ++ text_bytes state) ≡ Ok (info, state)
+unfolding state_at ended
+both_written info state info_fits state_fits =
     texts_at_step true (text_bytes info ++ text_bytes state) info (text_bytes state) (text_again info (text_bytes state) info_fits)
     ∙ ap (λ r. r >>= λ read. ended (info, read.0) read.1) (ap text_at (sym (append-nil (text_bytes state))) ∙ text_again state [] state_fits)
-texts_written false info state info_fits state_fits none =
-    texts_at_step false (text_bytes info ++ []) info [] (text_again info [] info_fits)
-    ∙ ap (λ (t : List ℕ). Ok (info, t)) (sym none)
 
 texts_again : (stated : Bool) (info state : List ℕ) → length info < 2 ^ 64 → length state < 2 ^ 64 → NoState stated state
     → texts_at stated (texts_bytes stated info state) ≡ Ok (info, state)
-unfolding texts_at texts_bytes
-texts_again stated [] [] info_fits state_fits none = refl
-texts_again stated [] (byte ∷ state) info_fits state_fits none = texts_written stated [] (byte ∷ state) info_fits state_fits none
-texts_again stated (byte ∷ info) state info_fits state_fits none = texts_written stated (byte ∷ info) state info_fits state_fits none
+unfolding texts_at texts_bytes NoState
+texts_again false [] state info_fits state_fits none = ap (λ (t : List ℕ). Ok ([], t)) (sym none)
+texts_again false (byte ∷ info) state info_fits state_fits none = info_written (byte ∷ info) info_fits ∙ ap (λ (t : List ℕ). Ok (byte ∷ info, t)) (sym none)
+texts_again true [] [] info_fits state_fits none = refl
+texts_again true [] (byte ∷ state) info_fits state_fits none = both_written [] (byte ∷ state) info_fits state_fits
+texts_again true (byte ∷ info) state info_fits state_fits none = both_written (byte ∷ info) state info_fits state_fits
 
 texts_no_state : (stated : Bool) (bytes info state : List ℕ) → texts_at stated bytes ≡ Ok (info, state) → NoState stated state
 unfolding texts_at state_at NoState

@@ -4,7 +4,7 @@ use Rattle.rws_wire.specs.Numbers.{bytes_of}
 use Rattle.rws_msgs.specs.declared.fault.MsgFault.{MsgFault}
 use Rattle.rws_msgs.specs.declared.eof_msg.EofMsg.{EofMsg}
 use Rattle.rws_msgs.specs.Fields.{fixed_at, number_at, ended}
-use Rattle.rws_msgs.specs.Reading.{◌>>=◌}
+use Rattle.rws_wire.specs.Reading.{◌>>=◌}
 
 unfoldable pub eof_at : List ℕ → Result EofMsg MsgFault
 eof_at payload = do

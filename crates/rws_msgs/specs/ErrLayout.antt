@@ -4,7 +4,7 @@ use Rattle.rws_wire.specs.Numbers.{bytes_of}
 use Rattle.rws_msgs.specs.declared.fault.MsgFault.{MsgFault}
 use Rattle.rws_msgs.specs.declared.err_msg.ErrMsg.{ErrMsg}
 use Rattle.rws_msgs.specs.Fields.{fixed_at, number_at, bytes_at}
-use Rattle.rws_msgs.specs.Reading.{◌>>=◌}
+use Rattle.rws_wire.specs.Reading.{◌>>=◌}
 
 unfoldable pub err_at : List ℕ → Result ErrMsg MsgFault
 err_at payload = do

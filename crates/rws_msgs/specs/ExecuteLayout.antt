@@ -5,7 +5,7 @@ use Rattle.rws_msgs.specs.declared.fault.MsgFault.{MsgFault}
 use Rattle.rws_msgs.specs.declared.fault.MsgFault.TheVariants.{Short, BadTag}
 use Rattle.rws_msgs.specs.declared.execute_head.ExecuteHead.{ExecuteHead}
 use Rattle.rws_msgs.specs.Fields.{bytes_at, fixed_at, number_at}
-use Rattle.rws_msgs.specs.Reading.{◌>>=◌}
+use Rattle.rws_wire.specs.Reading.{◌>>=◌}
 
 -- an iteration count of 1
 unfoldable pub once_at : List ℕ → Result (List ℕ) MsgFault

@@ -4,7 +4,7 @@ use Rattle.rws_wire.specs.Numbers.{number_of}
 use Rattle.rws_wire.specs.Lenenc.{Lenenc, Integer, Cut, NoInteger, lenenc, lenenc_bytes}
 use Rattle.rws_msgs.specs.declared.fault.MsgFault.{MsgFault}
 use Rattle.rws_msgs.specs.declared.fault.MsgFault.TheVariants.{Short, BadTag, Trailing, BadLenenc}
-use Rattle.rws_msgs.specs.Reading.{◌>>=◌}
+use Rattle.rws_wire.specs.Reading.{◌>>=◌}
 
 -- so many bytes
 unfoldable pub bytes_at : ℕ → List ℕ → Result (List ℕ × List ℕ) MsgFault

@@ -6,7 +6,7 @@ use Rattle.rws_msgs.specs.declared.fault.MsgFault.{MsgFault}
 use Rattle.rws_msgs.specs.declared.greeting.Greeting.{Greeting}
 use Rattle.rws_msgs.specs.declared.greeting.Abilities.{Abilities}
 use Rattle.rws_msgs.specs.Fields.{bytes_at, ended, fixed_at, last_text_at, number_at, zero_text_at}
-use Rattle.rws_msgs.specs.Reading.{◌>>=◌}
+use Rattle.rws_wire.specs.Reading.{◌>>=◌}
 
 -- the character set and the status, between the halves of the capabilities
 unfoldable pub abilities_at : List ℕ → Result (Abilities × List ℕ) MsgFault

@@ -1,12 +1,12 @@
 -- OK_Packet of a client with CLIENT_PROTOCOL_41. Under CLIENT_SESSION_TRACK the info may be followed by the
 -- session's changes; without it the payload may end in an info too, in the form that MariaDB writes.
-use Rattle.std.specs.Prelude.{ℕ, ◌<◌, ◌^◌, length, Bool, true, false, ◌&&◌, not, List, [], ◌∷◌, ◌++◌, ◌==◌, bit_and, if◌then◌else◌, Result, Ok}
+use Rattle.std.specs.Prelude.{ℕ, ◌<◌, ◌^◌, length, Bool, true, false, ◌&&◌, not, List, [], ◌∷◌, ◌++◌, ◌==◌, bit_and, Result, Ok}
 use Rattle.rws_wire.specs.Lenenc.{lenenc_bytes}
 use Rattle.rws_wire.specs.Numbers.{bytes_of}
 use Rattle.rws_msgs.specs.declared.fault.MsgFault.{MsgFault}
 use Rattle.rws_msgs.specs.declared.ok_msg.OkMsg.{OkMsg}
 use Rattle.rws_msgs.specs.Fields.{fixed_at, lenenc_at, number_at, text_at, text_bytes, ended}
-use Rattle.rws_msgs.specs.Reading.{◌>>=◌}
+use Rattle.rws_wire.specs.Reading.{◌>>=◌}
 
 -- SERVER_SESSION_STATE_CHANGED
 abbrev pub states : ℕ → Bool
@@ -41,9 +41,12 @@ ok_at track payload = do
     state = texts.1;
   })
 
+-- the info alone, or the info and the state where one is to stand; nothing in place of empty texts
 unfoldable pub texts_bytes : Bool → List ℕ → List ℕ → List ℕ
-texts_bytes stated [] [] = []
-texts_bytes stated info state = text_bytes info ++ (if stated then text_bytes state else [])
+texts_bytes false [] state = []
+texts_bytes false info state = text_bytes info
+texts_bytes true [] [] = []
+texts_bytes true info state = text_bytes info ++ text_bytes state
 
 unfoldable pub ok_bytes : Bool → OkMsg → List ℕ
 ok_bytes track ok =

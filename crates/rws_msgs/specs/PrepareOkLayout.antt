@@ -4,7 +4,7 @@ use Rattle.rws_wire.specs.Numbers.{bytes_of}
 use Rattle.rws_msgs.specs.declared.fault.MsgFault.{MsgFault}
 use Rattle.rws_msgs.specs.declared.prepare_ok.PrepareOk.{PrepareOk}
 use Rattle.rws_msgs.specs.Fields.{fixed_at, number_at, ended}
-use Rattle.rws_msgs.specs.Reading.{◌>>=◌}
+use Rattle.rws_wire.specs.Reading.{◌>>=◌}
 
 unfoldable pub prepare_ok_at : List ℕ → Result PrepareOk MsgFault
 prepare_ok_at payload = do

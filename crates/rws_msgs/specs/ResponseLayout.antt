@@ -4,7 +4,7 @@ use Rattle.rws_wire.specs.Numbers.{bytes_of}
 use Rattle.rws_msgs.specs.declared.fault.MsgFault.{MsgFault}
 use Rattle.rws_msgs.specs.declared.response.Response.{Response}
 use Rattle.rws_msgs.specs.Fields.{HasNoZero, bytes_at, number_at, text_at, text_bytes, zero_text_at, last_text_at, ended}
-use Rattle.rws_msgs.specs.Reading.{◌>>=◌}
+use Rattle.rws_wire.specs.Reading.{◌>>=◌}
 
 -- whether a capability is among the flags
 unfoldable pub has : ℕ → ℕ → Bool

@@ -3,7 +3,7 @@ use Rattle.std.specs.Prelude.{ℕ, List, [], ◌∷◌, ◌++◌, Result}
 use Rattle.rws_msgs.specs.declared.fault.MsgFault.{MsgFault}
 use Rattle.rws_msgs.specs.declared.switch.Switch.{Switch}
 use Rattle.rws_msgs.specs.Fields.{fixed_at, bytes_at, zero_text_at, ended}
-use Rattle.rws_msgs.specs.Reading.{◌>>=◌}
+use Rattle.rws_wire.specs.Reading.{◌>>=◌}
 
 unfoldable pub switch_at : List ℕ → Result Switch MsgFault
 switch_at payload = do

@@ -1,7 +1,7 @@
 // The end of a list of definitions or rows.
 ghost use Rattle.std.specs.Prelude.{◌≡◌, ◌++◌, Ok, OnOk, OnErr, length, take};
 ghost use Rattle.rws_msgs.specs.EofLayout.{EofFits, eof_at, eof_bytes};
-ghost use Rattle.rws_msgs.specs.Reading.{Reads};
+ghost use Rattle.rws_wire.specs.Reading.{Reads};
 
 use crate::MsgFault;
 use crate::reading::{end, fixed_at, u16_at};

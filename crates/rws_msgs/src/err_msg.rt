@@ -4,7 +4,8 @@ ghost use Rattle.std.specs.Option.{option_map};
 ghost use Rattle.std.specs.Result.{result_ok};
 ghost use Rattle.rws_msgs.specs.ErrLayout.{ErrFits, err_at, err_bytes};
 ghost use Rattle.rws_msgs.specs.ErrParts.{err_of};
-ghost use Rattle.rws_msgs.specs.Reading.{Gives, Reads};
+ghost use Rattle.rws_msgs.specs.Reading.{Gives};
+ghost use Rattle.rws_wire.specs.Reading.{Reads};
 
 use crate::MsgFault;
 use crate::reading::{array5_at, fixed_at, u16_at};

@@ -3,7 +3,8 @@ ghost use Rattle.std.specs.Prelude.{◌≡◌, ◌+◌, ◌++◌, List, ℕ, Ok,
 ghost use Rattle.std.specs.Option.{option_map};
 ghost use Rattle.rws_msgs.specs.ExecuteLayout.{execute_at, execute_bytes, once_at, types_at, types_bytes, values_at, values_bytes};
 ghost use Rattle.rws_msgs.specs.ExecuteParts.{ExecuteFits, execute_of};
-ghost use Rattle.rws_msgs.specs.Reading.{Gives, Reads};
+ghost use Rattle.rws_msgs.specs.Reading.{Gives};
+ghost use Rattle.rws_wire.specs.Reading.{Reads};
 
 use crate::MsgFault;
 use crate::reading::{bytes_at, fixed_at, u8_at, u32_at};

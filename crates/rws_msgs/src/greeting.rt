@@ -3,7 +3,8 @@ ghost use Rattle.std.specs.Prelude.{◌≡◌, ◌<◌, ◌^◌, ◌++◌, Ok, O
 ghost use Rattle.rws_msgs.specs.Fields.{HasNoZero};
 ghost use Rattle.rws_msgs.specs.GreetingLayout.{GreetingFits, abilities_at, abilities_bytes, back_bytes, front_bytes, greeting_at, greeting_bytes, last_piece_at, plugin_at};
 ghost use Rattle.rws_msgs.specs.GreetingParts.{greeting_of};
-ghost use Rattle.rws_msgs.specs.Reading.{Gives, Reads};
+ghost use Rattle.rws_msgs.specs.Reading.{Gives};
+ghost use Rattle.rws_wire.specs.Reading.{Reads};
 
 use crate::MsgFault;
 use crate::reading::{

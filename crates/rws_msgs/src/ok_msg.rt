@@ -4,7 +4,8 @@ ghost use Rattle.std.specs.Option.{option_map};
 ghost use Rattle.std.specs.Result.{result_ok};
 ghost use Rattle.rws_msgs.specs.OkLayout.{OkFits, ok_at, ok_bytes, state_at, texts_at, texts_bytes};
 ghost use Rattle.rws_msgs.specs.OkParts.{ok_of};
-ghost use Rattle.rws_msgs.specs.Reading.{Gives, Reads};
+ghost use Rattle.rws_msgs.specs.Reading.{Gives};
+ghost use Rattle.rws_wire.specs.Reading.{Reads};
 
 use crate::MsgFault;
 use crate::reading::{end, fixed_at, lenenc_at, split_text, u16_at};
@@ -22,7 +23,9 @@ pub struct OkMsg {
     /// The server's status bits: 0x0001 in a transaction, 0x0002 autocommit, 0x0008 more results follow, 0x4000
     /// the session's state changed.
     pub status: u16,
+    /// How many warnings the command left.
     pub warnings: u16,
+    /// A text for people, as `Rows matched: 1`. Empty where there is none.
     pub info: Text,
     /// The changes of the session's state, as they stand in the message. Empty where there are none.
     pub state: Text,
@@ -111,8 +114,9 @@ impl OkMsg {
         })
     }
 
-    /// Appends the payload. Without an info and a state nothing is written of both; a state is written where the
-    /// status has 0x4000 and `track` is set. `Err` leaves `out` as it was.
+    /// Appends the payload. A state is to be written where `track` is set and the status has 0x4000: then the info and
+    /// the state are written, and neither where both are empty. Without one the info alone is written, and nothing
+    /// where it is empty. `Err` leaves `out` as it was.
     #[tactic(auto, using(crate::proofs::OkLemmas::ok_again))]
     pub fn encode(&self, track: bool, out: &mut Vec<u8>) -> Result<(), AllocError>
         ensures ok { OnOk result (out.new.items ≡ out.old.items ++ ok_bytes track self.now) }
@@ -149,7 +153,7 @@ fn put_texts(stated: bool, info: &[u8], state: &[u8], out: &mut Vec<u8>) -> Resu
     ensures ok { OnOk result (out.new.items ≡ out.old.items ++ texts_bytes stated info.now state.now) }
     ensures err { OnErr result (take (length out.old.items) out.new.items ≡ out.old.items) }
 {
-    if info.is_empty() && state.is_empty() {
+    if info.is_empty() && (!stated || state.is_empty()) {
         return Ok(());
     }
     put_text(info, out)?;

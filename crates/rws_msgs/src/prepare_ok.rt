@@ -1,7 +1,7 @@
 // The answer to a prepare.
 ghost use Rattle.std.specs.Prelude.{◌≡◌, ◌++◌, Ok, OnOk, OnErr};
 ghost use Rattle.rws_msgs.specs.PrepareOkLayout.{PrepareOkFits, prepare_ok_at, prepare_ok_bytes};
-ghost use Rattle.rws_msgs.specs.Reading.{Reads};
+ghost use Rattle.rws_wire.specs.Reading.{Reads};
 
 use crate::MsgFault;
 use crate::reading::{end, fixed_at, u16_at, u32_at};

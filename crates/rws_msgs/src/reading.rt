@@ -1,7 +1,7 @@
 // The fields of messages, read without memory: each reader gives a value and the bytes behind it.
 ghost use Rattle.std.specs.Prelude.{◌≡◌, IfOk, OnErr};
 ghost use Rattle.rws_msgs.specs.Fields.{HasNoZero, bytes_at, ended, fixed_at, last_text_at, lenenc_at, number_at, text_at, zero_text_at};
-ghost use Rattle.rws_msgs.specs.Reading.{Reads};
+ghost use Rattle.rws_wire.specs.Reading.{Reads};
 
 use crate::MsgFault;
 use rws_wire::{LenencFault, split_lenenc};

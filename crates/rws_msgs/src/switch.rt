@@ -1,7 +1,8 @@
 // The question for another authentication plugin.
 ghost use Rattle.std.specs.Prelude.{◌≡◌, ◌++◌, Ok, OnOk, OnErr, IfOk, length, take};
 ghost use Rattle.rws_msgs.specs.Fields.{HasNoZero};
-ghost use Rattle.rws_msgs.specs.Reading.{Gives, Reads};
+ghost use Rattle.rws_msgs.specs.Reading.{Gives};
+ghost use Rattle.rws_wire.specs.Reading.{Reads};
 ghost use Rattle.rws_msgs.specs.SwitchLayout.{switch_at, switch_bytes};
 ghost use Rattle.rws_msgs.specs.SwitchParts.{switch_of};
 

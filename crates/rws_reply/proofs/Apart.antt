@@ -8,7 +8,7 @@ use Rattle.rws_wire.specs.Numbers.{number_of}
 use Rattle.rws_msgs.specs.declared.eof_msg.EofMsg.{EofMsg}
 use Rattle.rws_msgs.specs.declared.fault.MsgFault.{MsgFault}
 use Rattle.rws_msgs.specs.declared.fault.MsgFault.TheVariants.{Short, BadTag}
-use Rattle.rws_msgs.specs.Reading.{◌>>=◌}
+use Rattle.rws_wire.specs.Reading.{◌>>=◌}
 use Rattle.rws_msgs.specs.Fields.{fixed_at, number_at, ended, lenenc_at, text_at}
 use Rattle.rws_msgs.specs.OkLayout.{ok_at}
 use Rattle.rws_msgs.specs.ErrLayout.{err_at}

@@ -5,7 +5,7 @@ use Rattle.std.specs.Prelude.{ℕ, suc, bit_and, Bool, true, false, not, ◌&&�
 use Rattle.std.specs.Option.{option_map}
 use Rattle.std.specs.Result.{result_ok}
 use Rattle.rws_wire.specs.Lenenc.{Lenenc, Integer, lenenc}
-use Rattle.rws_msgs.specs.Reading.{◌>>=◌}
+use Rattle.rws_wire.specs.Reading.{◌>>=◌}
 use Rattle.rws_msgs.specs.Fields.{text_at}
 use Rattle.rws_msgs.specs.OkLayout.{ok_at}
 use Rattle.rws_msgs.specs.ErrLayout.{err_at}
