@@ -8,7 +8,7 @@ ghost use Rattle.rws_msgs.specs.Reading.{Gives};
 ghost use Rattle.rws_wire.specs.Reading.{Reads};
 
 use crate::MsgFault;
-use crate::reading::{array5_at, fixed_at, u16_at};
+use crate::reading::{array_at, fixed_at, u16_at};
 use crate::writing::{or_cut, put_u16};
 use rws_wire::Text;
 use std::alloc::{AllocError, Global};
@@ -38,7 +38,7 @@ fn parts_of(payload: &[u8]) -> Result<Parts<'_>, MsgFault>
     let rest = fixed_at(0xFF, payload)?;
     let (code, rest) = u16_at(rest)?;
     let rest = fixed_at(b'#', rest)?;
-    let (state, text) = array5_at(rest)?;
+    let (state, text) = array_at::<5>(rest)?;
     Ok(Parts { code, state, text })
 }
 

@@ -40,10 +40,10 @@ struct Parts<'a> {
 fn once_at(bytes: &[u8]) -> Result<&[u8], MsgFault>
     ensures { Reads (λ rest. rest.now) result (once_at bytes.now) }
 {
-    let second = fixed_at(0x01, bytes)?;
-    let third = fixed_at(0x00, second)?;
-    let fourth = fixed_at(0x00, third)?;
-    fixed_at(0x00, fourth)
+    let rest = fixed_at(0x01, bytes)?;
+    let rest = fixed_at(0x00, rest)?;
+    let rest = fixed_at(0x00, rest)?;
+    fixed_at(0x00, rest)
 }
 
 #[tactic(auto, unfolding(crate::specs::ExecuteLayout::types_at))]

@@ -9,7 +9,8 @@ use std::alloc::AllocError;
 pub enum MsgFault {
     /// The payload ends early.
     Short,
-    /// A byte that the layout fixes is this one instead.
+    /// A byte that the layout fixes is this one instead. Also the byte that says whether an execute's types follow,
+    /// where it is neither 0 nor 1.
     BadTag { byte: u8 },
     /// Bytes are left behind the message.
     Trailing,

@@ -8,8 +8,7 @@ ghost use Rattle.rws_wire.specs.Reading.{Reads};
 
 use crate::MsgFault;
 use crate::reading::{
-    array2_at, array8_at, array12_at, bytes_at, end, fixed_at, last_text_at, u8_at, u16_at, u32_at,
-    zero_text_at,
+    array_at, bytes_at, end, fixed_at, last_text_at, u8_at, u16_at, u32_at, zero_text_at,
 };
 use crate::writing::{or_cut, put_u32};
 use rws_wire::Text;
@@ -18,9 +17,11 @@ use std::alloc::{AllocError, Global};
 /// HandshakeV10: the server's version and what it can, with the scramble that a login answers.
 #[derive(Debug, Drop)]
 pub struct Greeting {
+    /// The server's version, as a text.
     pub version: Text,
     /// The server's number of the connection.
     pub id: u32,
+    /// The bytes that a login answers, both pieces put together.
     pub scramble: [u8; 20],
     /// The lower 32 bits of the server's capabilities.
     pub capabilities: u32,
@@ -53,10 +54,10 @@ struct Parts<'a> {
 fn abilities_of(bytes: &[u8]) -> Result<(Abilities, &[u8]), MsgFault>
     ensures { Reads (λ x. (x.0, x.1.now)) result (abilities_at bytes.now) }
 {
-    let ([a, b], rest) = array2_at(bytes)?;
+    let ([a, b], rest) = array_at::<2>(bytes)?;
     let (charset, rest) = u8_at(rest)?;
     let (status, rest) = u16_at(rest)?;
-    let ([c, d], rest) = array2_at(rest)?;
+    let ([c, d], rest) = array_at::<2>(rest)?;
     let capabilities = u32::from_le_bytes([a, b, c, d]);
     Ok((
         Abilities {
@@ -74,7 +75,7 @@ fn last_piece_of(bytes: &[u8]) -> Result<([u8; 12], &[u8]), MsgFault>
 {
     let (_, rest) = u8_at(bytes)?;
     let (_, rest) = bytes_at(10, rest)?;
-    let (piece, rest) = array12_at(rest)?;
+    let (piece, rest) = array_at::<12>(rest)?;
     let rest = fixed_at(0x00, rest)?;
     Ok((piece, rest))
 }
@@ -107,7 +108,7 @@ fn parts_of(payload: &[u8]) -> Result<Parts<'_>, MsgFault>
     let rest = fixed_at(0x0A, payload)?;
     let (version, rest) = zero_text_at(rest)?;
     let (id, rest) = u32_at(rest)?;
-    let (first, rest) = array8_at(rest)?;
+    let (first, rest) = array_at::<8>(rest)?;
     let behind = fixed_at(0x00, rest)?;
     let (abilities, rest) = abilities_of(behind)?;
     let (last, rest) = last_piece_of(rest)?;
@@ -147,7 +148,7 @@ impl Greeting {
         ensures ok { OnOk result (out.new.items ≡ out.old.items ++ greeting_bytes self.now) }
         ensures err { OnErr result (out.new.items ≡ out.old.items) }
 
-        // It is decoded again.
+        // It is decoded again where neither the version nor the plugin has a zero byte.
         ensures again { HasNoZero self.now.version → HasNoZero self.now.plugin → greeting_at (greeting_bytes self.now) ≡ Ok self.now }
     {
         let before = out.len();

@@ -1,4 +1,4 @@
-// Messages of the MariaDB client/server protocol, read from payloads and written.
+//! Messages of the MariaDB client/server protocol, read from payloads and written.
 #![tactic(auto)]
 
 mod eof_msg;

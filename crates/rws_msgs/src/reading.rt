@@ -37,50 +37,10 @@ pub fn u32_at(bytes: &[u8]) -> Result<(u32, &[u8]), MsgFault>
 }
 
 #[tactic(auto, unfolding(crate::specs::Fields::bytes_at))]
-pub fn array2_at(bytes: &[u8]) -> Result<([u8; 2], &[u8]), MsgFault>
-    ensures { Reads (λ x. (x.0, x.1.now)) result (bytes_at 2 bytes.now) }
+pub fn array_at<const N: usize>(bytes: &[u8]) -> Result<([u8; N], &[u8]), MsgFault>
+    ensures { Reads (λ x. (x.0, x.1.now)) result (bytes_at N bytes.now) }
 {
-    match bytes {
-        [a, b, rest @ ..] => Ok(([*a, *b], rest)),
-        _ => Err(MsgFault::Short),
-    }
-}
-
-#[tactic(auto, unfolding(crate::specs::Fields::bytes_at))]
-pub fn array5_at(bytes: &[u8]) -> Result<([u8; 5], &[u8]), MsgFault>
-    ensures { Reads (λ x. (x.0, x.1.now)) result (bytes_at 5 bytes.now) }
-{
-    match bytes {
-        [a, b, c, d, e, rest @ ..] => Ok(([*a, *b, *c, *d, *e], rest)),
-        _ => Err(MsgFault::Short),
-    }
-}
-
-#[tactic(auto, unfolding(crate::specs::Fields::bytes_at))]
-pub fn array8_at(bytes: &[u8]) -> Result<([u8; 8], &[u8]), MsgFault>
-    ensures { Reads (λ x. (x.0, x.1.now)) result (bytes_at 8 bytes.now) }
-{
-    match bytes.split_first_chunk::<8>() {
-        Some((chunk, rest)) => Ok((*chunk, rest)),
-        None => Err(MsgFault::Short),
-    }
-}
-
-#[tactic(auto, unfolding(crate::specs::Fields::bytes_at))]
-pub fn array12_at(bytes: &[u8]) -> Result<([u8; 12], &[u8]), MsgFault>
-    ensures { Reads (λ x. (x.0, x.1.now)) result (bytes_at 12 bytes.now) }
-{
-    match bytes.split_first_chunk::<12>() {
-        Some((chunk, rest)) => Ok((*chunk, rest)),
-        None => Err(MsgFault::Short),
-    }
-}
-
-#[tactic(auto, unfolding(crate::specs::Fields::bytes_at))]
-pub fn array20_at(bytes: &[u8]) -> Result<([u8; 20], &[u8]), MsgFault>
-    ensures { Reads (λ x. (x.0, x.1.now)) result (bytes_at 20 bytes.now) }
-{
-    match bytes.split_first_chunk::<20>() {
+    match bytes.split_first_chunk::<N>() {
         Some((chunk, rest)) => Ok((*chunk, rest)),
         None => Err(MsgFault::Short),
     }

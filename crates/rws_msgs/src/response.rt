@@ -36,7 +36,7 @@ const CONNECT_ATTRS: u32 = 0x10_0000;
 
 const PLUGIN_AUTH_LENENC: u32 = 0x20_0000;
 
-const GREATEST_PACKET: u32 = 0x100_0000;
+const MAX_PACKET_LEN: u32 = 0x100_0000;
 
 #[derive(Clone, Copy)]
 struct Parts<'a> {
@@ -148,7 +148,8 @@ fn copied(alloc: Global, name: Option<&[u8]>) -> Result<Option<Text>, MsgFault>
 }
 
 impl Response {
-    /// The response in a payload.
+    /// The response in a payload. The greatest packet, the filler and the attributes are read over. The last text, a
+    /// database or a plugin behind which nothing is to stand, may lack its zero byte.
     pub fn decode(alloc: Global, payload: &[u8]) -> Result<Response, MsgFault>
         ensures gives { Gives result (response_at payload.now) }
         ensures fits { IfOk result IsResponse }
@@ -171,7 +172,7 @@ impl Response {
         ensures ok { OnOk result (out.new.items ≡ out.old.items ++ response_bytes self.now) }
         ensures err { OnErr result (out.new.items ≡ out.old.items) }
 
-        // It is decoded again.
+        // It is decoded again where the names and the answer go with the flags and the texts have no zero byte.
         ensures again { IsResponse self.now → response_at (response_bytes self.now) ≡ Ok self.now }
     {
         let before = out.len();
@@ -196,7 +197,7 @@ impl Response {
         ensures err { OnErr result (take (length out.old.items) out.new.items ≡ out.old.items) }
     {
         put_u32(self.flags, out)?;
-        put_u32(GREATEST_PACKET, out)?;
+        put_u32(MAX_PACKET_LEN, out)?;
         out.push(self.charset)?;
         out.extend_from_slice(&[0; 23])?;
         out.extend_from_slice(self.user.as_slice())?;

@@ -7,7 +7,7 @@ ghost use Rattle.rws_msgs.specs.SwitchLayout.{switch_at, switch_bytes};
 ghost use Rattle.rws_msgs.specs.SwitchParts.{switch_of};
 
 use crate::MsgFault;
-use crate::reading::{array20_at, end, fixed_at, zero_text_at};
+use crate::reading::{array_at, end, fixed_at, zero_text_at};
 use crate::writing::or_cut;
 use rws_wire::Text;
 use std::alloc::{AllocError, Global};
@@ -17,6 +17,7 @@ use std::alloc::{AllocError, Global};
 pub struct Switch {
     /// The plugin's name.
     pub plugin: Text,
+    /// The bytes that the answer is made for.
     pub scramble: [u8; 20],
 }
 
@@ -33,7 +34,7 @@ fn parts_of(payload: &[u8]) -> Result<Parts<'_>, MsgFault>
 {
     let rest = fixed_at(0xFE, payload)?;
     let (plugin, rest) = zero_text_at(rest)?;
-    let (scramble, rest) = array20_at(rest)?;
+    let (scramble, rest) = array_at::<20>(rest)?;
     let last = fixed_at(0x00, rest)?;
     end(last)?;
     Ok(Parts { plugin, scramble })
@@ -58,7 +59,7 @@ impl Switch {
         ensures ok { OnOk result (out.new.items ≡ out.old.items ++ switch_bytes self.now) }
         ensures err { OnErr result (out.new.items ≡ out.old.items) }
 
-        // It is decoded again.
+        // It is decoded again where the plugin's name has no zero byte.
         ensures again { HasNoZero self.now.plugin → switch_at (switch_bytes self.now) ≡ Ok self.now }
     {
         let before = out.len();

@@ -138,6 +138,15 @@ fn messages_are_written_as_they_were_read(rt: HostRuntime) -> Result<(), Fail> {
 }
 
 #[test]
+fn state_is_left_out_without_tracking(rt: HostRuntime) -> Result<(), Fail> {
+    let mut out = Vec::new(rt.alloc());
+    let ok = OkMsg::decode(rt.alloc(), &OK, true)?;
+    ok.encode(false, &mut out)?;
+    assert_eq!(rt; out.as_slice(), &OK[..7]);
+    Ok(())
+}
+
+#[test]
 fn logins_are_written_as_they_were_read(rt: HostRuntime) -> Result<(), Fail> {
     let mut out = Vec::new(rt.alloc());
     let greeting = Greeting::decode(rt.alloc(), &GREETING)?;
