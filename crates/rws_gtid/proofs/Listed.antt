@@ -9,10 +9,11 @@ use Rattle.std.proofs.lemmas.Str.Parse.{digit_from_value}
 use Rattle.std.proofs.lemmas.Bool.Decides.{nat_tests}
 use Rattle.std.proofs.lemmas.List.Elements.{All-append, All-cons, All-from_recursion}
 use Rattle.std.proofs.lemmas.List.Splits.{join_with_byte-slice_split, slice_split_none, slice_split_at}
+use Rattle.rws_wire.specs.Reading.{◌>>=◌}
 use Rattle.rws_gtid.specs.declared.Gtid.{Gtid}
 use Rattle.rws_gtid.specs.declared.GtidFault.{GtidFault}
 use Rattle.rws_gtid.specs.Spelling.{AreInRange, IsInRange, gtid_text, list_text}
-use Rattle.rws_gtid.specs.Reading.{◌>>=◌, entries_at, gtids_of, position_in, entry_of}
+use Rattle.rws_gtid.specs.Reading.{entries_at, gtids_of, position_in, entry_of}
 use Rattle.rws_gtid.proofs.Spelled.{bind_ok, done, done_is, gtid_takes, gtid_again, not_zero}
 use Rattle.rws_gtid.proofs.Commas.{is_comma}
 

@@ -8,11 +8,12 @@ use Rattle.std.proofs.lemmas.Str.Parse.{digit_from_value, numerals_by_value, tel
 use Rattle.std.proofs.lemmas.Fmt.{decimal_is_IsNumeral, decimal-digits_value, decimal_digit, first_decimal}
 use Rattle.std.proofs.Math.Dec.{eqb-suc-zero}
 use Rattle.std.proofs.lemmas.Bool.Decides.{nat_tests}
+use Rattle.rws_wire.specs.Reading.{◌>>=◌}
 use Rattle.rws_gtid.specs.declared.Gtid.{Gtid}
 use Rattle.rws_gtid.specs.declared.GtidFault.{GtidFault}
 use Rattle.rws_gtid.specs.declared.GtidFault.TheVariants.{NotAGtid, TooBig}
 use Rattle.rws_gtid.specs.Spelling.{IsInRange, gtid_text}
-use Rattle.rws_gtid.specs.Reading.{◌>>=◌, Rest, behind, digits_of, number_at, dash_at, gtid_at}
+use Rattle.rws_gtid.specs.Reading.{Rest, behind, digits_of, number_at, dash_at, gtid_at}
 use Rattle.rws_gtid.proofs.Digits.{digits_in_run}
 
 abbrev other : ℕ → Bool

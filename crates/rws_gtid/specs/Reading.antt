@@ -1,21 +1,13 @@
--- Reading a GTID, or a list of them, from left to right, with the first fault that is met.
+-- Reading a GTID, or a list of them, from left to right, with the first fault that is met ("Global Transaction ID", in
+-- MariaDB's documentation).
 use Rattle.std.specs.Prelude.{◌≡◌, slice_index, ℕ, ◌+◌, ◌^◌, ◌==◌, not, List, [], ◌∷◌, length, drop, Option, None, Result, Ok, Err, nat_le, Some, ◌-◌, if◌then◌else◌, find}
 use Rattle.std.specs.List.{before_first, slice_split}
 use Rattle.std.specs.Char.{is_ascii_digit}
 use Rattle.std.specs.Str.Parse.{digits_value}
+use Rattle.rws_wire.specs.Reading.{◌>>=◌}
 use Rattle.rws_gtid.specs.declared.Gtid.{Gtid}
 use Rattle.rws_gtid.specs.declared.GtidFault.{GtidFault}
 use Rattle.rws_gtid.specs.declared.GtidFault.TheVariants.{NotAGtid, TooBig}
-
-infixl 10 ◌>>=◌
-abbrev pub ◌>>=◌ : {A B : Type 0} → Result A GtidFault → (A → Result B GtidFault) → Result B GtidFault
-(Ok x) >>= f = f x
-(Err e) >>= f = Err e
-
--- What a function returned, seen by view, is what reading gives.
-abbrev pub Reads : {X Y : Type 0} → (X → Y) → Result X GtidFault → Result Y GtidFault → Type 0
-Reads view (Ok x) read = read ≡ Ok (view x)
-Reads view (Err e) read = read ≡ Err e
 
 -- the place in the whole text where the rest begins, and the rest
 abbrev pub Rest : Type 0
@@ -83,8 +75,3 @@ unfoldable pub position_in : ℕ → List ℕ → Result (Option Gtid) GtidFault
 position_in domain list = do
   gtids ← gtids_of list
   Ok (entry_of domain gtids)
-
--- the first of two entries that is there
-abbrev pub earlier : Option Gtid → Option Gtid → Option Gtid
-earlier None other = other
-earlier (Some gtid) other = Some gtid

@@ -1,4 +1,4 @@
--- The texts of a GTID and of a list of GTIDs, as MariaDB writes them.
+-- The texts of a GTID and of a list of GTIDs, as MariaDB writes them ("Global Transaction ID", in its documentation).
 use Rattle.std.specs.Prelude.{ℕ, ◌<◌, ◌^◌, List, ◌∷◌, ◌++◌, map, codes}
 use Rattle.std.specs.List.{AllByRecursion, join_with_byte}
 use Rattle.std.specs.Fmt.{decimal}

@@ -1,10 +1,11 @@
 //! Reads a GTID, or a list of them, and names the place of the first fault.
 
-ghost use Rattle.std.specs.Prelude.{◌≡◌, ◌==◌, ◌+◌, ◌*◌, ◌^◌, ◌<◌, ◌≤◌, length, IfOk, IfSome, List, not, nat_le, position, option_map, [], ◌∷◌};
+ghost use Rattle.std.specs.Prelude.{◌≡◌, ◌==◌, ◌+◌, ◌*◌, ◌^◌, ◌<◌, ◌≤◌, length, IfOk, IfSome, List, not, nat_le, position, option_map};
 ghost use Rattle.std.specs.List.{before_first};
 ghost use Rattle.std.specs.Char.{digit_value, is_ascii_digit};
 ghost use Rattle.std.specs.Str.Parse.{digits_value, AllDigits};
-ghost use Rattle.rws_gtid.specs.Reading.{Reads, at_most, behind, digits_of, number_at, dash_at, gtid_at, gtids_of, entry_of, position_in, CutsAtComma, earlier};
+ghost use Rattle.rws_gtid.specs.Reading.{at_most, behind, digits_of, number_at, dash_at, gtid_at, entry_of, position_in, CutsAtComma};
+ghost use Rattle.rws_wire.specs.Reading.{Reads};
 ghost use Rattle.rws_gtid.specs.Spelling.{AreInRange, IsInRange, gtid_text, list_text};
 ghost use Rattle.rws_gtid.specs.declared.Gtid.{Gtid};
 
@@ -158,16 +159,6 @@ fn cut_at_comma(list: &[u8]) -> (&[u8], Option<&[u8]>)
     }
 }
 
-/// The entry found before, or else this one where it is of the domain.
-fn found_by(found: Option<Gtid>, gtid: Gtid, domain: u32) -> Option<Gtid>
-    ensures { result ≡ earlier found (entry_of domain (gtid ∷ [])) }
-{
-    if found.is_none() && gtid.domain == domain {
-        return Some(gtid);
-    }
-    found
-}
-
 /// The first entry of the domain in a list.
 fn first_of(list: &[u8], domain: u32) -> Result<Option<Gtid>, GtidFault>
     ensures { result ≡ position_in domain list.now }
@@ -181,7 +172,7 @@ fn first_of(list: &[u8], domain: u32) -> Result<Option<Gtid>, GtidFault>
     loop {
         let (entry, behind) = cut_at_comma(rest);
         let gtid = whole_gtid(Rest { at, bytes: entry })?;
-        found = found_by(found, gtid, domain);
+        found = found.or((gtid.domain == domain).then_some(gtid));
         let Some(others) = behind else {
             return Ok(found);
         };
@@ -191,7 +182,8 @@ fn first_of(list: &[u8], domain: u32) -> Result<Option<Gtid>, GtidFault>
 }
 
 /// The first entry of the domain in a list of GTIDs that commas part, as `@@gtid_current_pos` shows them. The
-/// empty text is the list without entries. A list with a fault anywhere has no entries: the first one is answered.
+/// empty text is the list without entries. Where the list has a fault anywhere, the first fault is the answer, at its
+/// place in the whole list.
 pub fn position_of(list: &[u8], domain: u32) -> Result<Option<Gtid>, GtidFault>
     ensures read { result ≡ position_in domain list.now }
 

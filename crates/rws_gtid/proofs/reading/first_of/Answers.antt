@@ -1,6 +1,6 @@
 use Rattle.std.proofs.Common.{◌∙◌, sym, ap, length, refl, add_assoc}
 use Rattle.rws_gtid.specs.Reading.{gtids_of, position_in}
-use Rattle.rws_gtid.proofs.Entries.{all_left, fault_stays, last_found, others_left}
+use Rattle.rws_gtid.proofs.Entries.{all_left, fault_stays, found_by, last_found, others_left}
 use Rattle.std.proofs.lemmas.Result.{err_from_is_err_and}
 use Rattle.std.proofs.Common.{Option, Ok}
 use Rattle.rws_gtid.specs.declared.Gtid.{Gtid}
@@ -21,10 +21,10 @@ returns-in_err-gtid c =
 pub returns-in_default : goal.returns-in_default
 returns-in_default c =
     let cuts = rw c.in_default.is at c.cut_at_comma.ensures in
-    sym (last_found c.args.list.now c.args.domain c.loop-gtid.found c.loop-gtid.at c.loop-gtid.rest.now c.cut_at_comma.result.0.now c.loop-gtid.invariant c.in_ok-gtid.gtid cuts (sym c.whole_gtid.ensures ∙ c.in_ok-gtid.was) ∙ ap (λ (o : Option Gtid). Ok o) (sym c.found_by-found.ensures))
+    sym (last_found c.args.list.now c.args.domain c.loop-gtid.found c.loop-gtid.at c.loop-gtid.rest.now c.cut_at_comma.result.0.now c.loop-gtid.invariant c.in_ok-gtid.gtid cuts (sym c.whole_gtid.ensures ∙ c.in_ok-gtid.was) ∙ ap (λ (o : Option Gtid). Ok o) (sym (found_by c.loop-gtid.found c.then_some.result c.or-found.result c.args.domain c.in_ok-gtid.gtid c.or-found.ensures c.then_some.ensures)))
 
 pub loop-gtid-preserved : goal.loop-gtid-preserved
 loop-gtid-preserved c =
     let cuts = rw c.in-Some.is at c.cut_at_comma.ensures in
     let left = others_left c.args.list.now c.args.domain c.loop-gtid.found c.loop-gtid.at c.loop-gtid.rest.now c.cut_at_comma.result.0.now c.loop-gtid.invariant c.in_ok-gtid.gtid c.in-Some.others.now cuts (sym c.whole_gtid.ensures ∙ c.in_ok-gtid.was) in
-    rw (c.found_by-found.ensures, ← add_assoc c.loop-gtid.at (length c.cut_at_comma.result.0.now) 1) left
+    rw (found_by c.loop-gtid.found c.then_some.result c.or-found.result c.args.domain c.in_ok-gtid.gtid c.or-found.ensures c.then_some.ensures, ← add_assoc c.loop-gtid.at (length c.cut_at_comma.result.0.now) 1) left
