@@ -3,6 +3,7 @@ use Rattle.std.proofs.Common.{◌≡◌, ℕ, zero, suc, ◌-◌, ◌<◌, ◌�
 use Rattle.std.proofs.lemmas.Bool.Decides.{nat_tests}
 use Rattle.std.proofs.lemmas.List.{take_rest}
 use Rattle.std.specs.Prelude.{◌==◌, Result, Ok, Err, OnErr, IfOk}
+use Rattle.std.specs.Option.{option_or}
 use Rattle.std.specs.Result.{result_unwrap_or}
 use Rattle.rws_msgs.specs.declared.fault.MsgFault.{MsgFault}
 use Rattle.rws_msgs.specs.Fields.{text_at}
@@ -10,21 +11,21 @@ use Rattle.rws_msgs.proofs.FieldLemmas.{ok_is, text_at_nothing}
 use Rattle.rws_track.specs.declared.state.BrokenOff.{BrokenOff}
 use Rattle.rws_gtid.specs.declared.Gtid.{Gtid}
 use Rattle.rws_track.specs.State as state
-use Rattle.rws_track.specs.State.{Variable, AreVariables, EntryShows, Shows, gtid_in, later, last_gtid}
+use Rattle.rws_track.specs.State.{Variable, AreVariables, EntryShows, Shows, gtid_in, last_gtid}
 
 -- ---- the last of two lists
 
-later-assoc : (a b c : Option Gtid) → later (later a b) c ≡ later a (later b c)
-later-assoc a b None = refl
-later-assoc a b (Some g) = refl
+or-assoc : (c b a : Option Gtid) → option_or c (option_or b a) ≡ option_or (option_or c b) a
+or-assoc None b a = refl
+or-assoc (Some g) b a = refl
 
-none_first : (o : Option Gtid) → later None o ≡ o
+none_first : (o : Option Gtid) → option_or o None ≡ o
 none_first None = refl
 none_first (Some g) = refl
 
-pub last_gtid-append : (domain : ℕ) (xs ys : List Variable) → last_gtid domain (xs ++ ys) ≡ later (last_gtid domain xs) (last_gtid domain ys)
+pub last_gtid-append : (domain : ℕ) (xs ys : List Variable) → last_gtid domain (xs ++ ys) ≡ option_or (last_gtid domain ys) (last_gtid domain xs)
 last_gtid-append domain [] ys = sym (none_first (last_gtid domain ys))
-last_gtid-append domain (x ∷ xs) ys = ap (later (gtid_in domain x)) (last_gtid-append domain xs ys) ∙ sym (later-assoc (gtid_in domain x) (last_gtid domain xs) (last_gtid domain ys))
+last_gtid-append domain (x ∷ xs) ys = ap (λ (o : Option Gtid). option_or o (gtid_in domain x)) (last_gtid-append domain xs ys) ∙ sym (or-assoc (last_gtid domain ys) (last_gtid domain xs) (gtid_in domain x))
 
 -- ---- variables
 
@@ -44,18 +45,18 @@ variables_behind (state.more bytes name behind value rest {variables = others} g
 
 -- what is left of the data gives what the whole gives, with the GTID found so far
 pub record VariablesLeft (domain : ℕ) (found : Option Gtid) (whole rest : List ℕ) (last : Option Gtid) : Type 0 where
-  pub on : (shown : List Variable) → AreVariables rest shown → (all : List Variable) × AreVariables whole all × (later last (last_gtid domain shown) ≡ later found (last_gtid domain all))
+  pub on : (shown : List Variable) → AreVariables rest shown → (all : List Variable) × AreVariables whole all × (option_or (last_gtid domain shown) last ≡ option_or (last_gtid domain all) found)
   pub back : (all : List Variable) → AreVariables whole all → (shown : List Variable) × AreVariables rest shown
 
 pub all_variables_left : (domain : ℕ) (found : Option Gtid) (whole : List ℕ) → VariablesLeft domain found whole whole found
 all_variables_left domain found whole = record { on = λ shown are. (shown, are, refl); back = λ all are. (all, are) }
 
 module _ (domain : ℕ) (found : Option Gtid) (whole bytes : List ℕ) (last : Option Gtid) (left : VariablesLeft domain found whole bytes last) where
-  pub one_variable : (name behind value rest : List ℕ) → text_at bytes ≡ Ok (name, behind) → text_at behind ≡ Ok (value, rest) → VariablesLeft domain found whole rest (later last (gtid_in domain (name, value)))
+  pub one_variable : (name behind value rest : List ℕ) → text_at bytes ≡ Ok (name, behind) → text_at behind ≡ Ok (value, rest) → VariablesLeft domain found whole rest (option_or (gtid_in domain (name, value)) last)
   one_variable name behind value rest e f = record {
     on = λ shown are.
         let one = left.on ((name, value) ∷ shown) (state.more bytes name behind value rest e f are) in
-        (one.0, one.1, later-assoc last (gtid_in domain (name, value)) (last_gtid domain shown) ∙ one.2);
+        (one.0, one.1, or-assoc (last_gtid domain shown) (gtid_in domain (name, value)) last ∙ one.2);
     back = λ all are. let shown = left.back all are in variables_behind shown.1 name behind value rest e f;
   }
 
@@ -74,10 +75,10 @@ module _ (domain : ℕ) (found : Option Gtid) (whole bytes : List ℕ) (last : O
   pub value_broken : {fault : MsgFault} → 0 < length bytes → (name behind : List ℕ) → text_at bytes ≡ Ok (name, behind) → text_at behind ≡ Err fault → (all : List Variable) → AreVariables whole all → ⊥
   value_broken some_ name behind e f all are = no_value (left.back all are).1 some_ name behind e f
 
-  pub variables_end : length bytes ≡ 0 → (all : List Variable) × AreVariables whole all × (last ≡ later found (last_gtid domain all))
+  pub variables_end : length bytes ≡ 0 → (all : List Variable) × AreVariables whole all × (last ≡ option_or (last_gtid domain all) found)
   variables_end e = ends bytes e left
     where
-      ends : (bytes : List ℕ) → length bytes ≡ 0 → VariablesLeft domain found whole bytes last → (all : List Variable) × AreVariables whole all × (last ≡ later found (last_gtid domain all))
+      ends : (bytes : List ℕ) → length bytes ≡ 0 → VariablesLeft domain found whole bytes last → (all : List Variable) × AreVariables whole all × (last ≡ option_or (last_gtid domain all) found)
       ends [] e left = left.on [] state.none
       ends (b ∷ bs) e left = absurd (omega arith)
 
@@ -94,18 +95,18 @@ entries_behind (state.entry kind' body' inner' rest' first {others} g entry are)
 
 -- what is left of the state gives what the whole gives, with the GTID found so far
 pub record EntriesLeft (domain : ℕ) (whole rest : List ℕ) (last : Option Gtid) : Type 0 where
-  pub on : (shown : List Variable) → Shows rest shown → (all : List Variable) × Shows whole all × (later last (last_gtid domain shown) ≡ last_gtid domain all)
+  pub on : (shown : List Variable) → Shows rest shown → (all : List Variable) × Shows whole all × (option_or (last_gtid domain shown) last ≡ last_gtid domain all)
   pub back : (all : List Variable) → Shows whole all → (shown : List Variable) × Shows rest shown
 
 pub all_entries_left : (domain : ℕ) (whole : List ℕ) → EntriesLeft domain whole whole None
 all_entries_left domain whole = record { on = λ shown are. (shown, are, none_first (last_gtid domain shown)); back = λ all are. (all, are) }
 
 module _ (domain : ℕ) (whole bytes : List ℕ) (last : Option Gtid) (left : EntriesLeft domain whole bytes last) (kind : ℕ) (body : List ℕ) (same : bytes ≡ kind ∷ body) where
-  pub one_entry : (inner rest : List ℕ) (first : List Variable) → text_at body ≡ Ok (inner, rest) → EntryShows kind inner first → EntriesLeft domain whole rest (later last (last_gtid domain first))
+  pub one_entry : (inner rest : List ℕ) (first : List Variable) → text_at body ≡ Ok (inner, rest) → EntryShows kind inner first → EntriesLeft domain whole rest (option_or (last_gtid domain first) last)
   one_entry inner rest first e entry = record {
     on = λ shown are.
         let one = left.on (first ++ shown) (subst (λ (b : List ℕ). Shows b (first ++ shown)) (sym same) (state.entry kind body inner rest first e entry are)) in
-        (one.0, one.1, later-assoc last (last_gtid domain first) (last_gtid domain shown) ∙ ap (later last) (sym (last_gtid-append domain first shown)) ∙ one.2);
+        (one.0, one.1, or-assoc (last_gtid domain shown) (last_gtid domain first) last ∙ ap (λ (o : Option Gtid). option_or o last) (sym (last_gtid-append domain first shown)) ∙ one.2);
     back = λ all are. let shown = left.back all are in let behind = entries_behind shown.1 kind body inner rest same e in (behind.1, behind.3);
   }
 

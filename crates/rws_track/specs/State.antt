@@ -1,6 +1,7 @@
 -- The session state that an OK reports ("OK_Packet", session state information): entries of a type byte and
 -- length-encoded data. The data of type 0 is system variables, each a length-encoded name and value.
 use Rattle.std.specs.Prelude.{◌≡◌, ◌==◌, ℕ, zero, suc, List, [], ◌∷◌, ◌++◌, Option, Some, None, Ok, option_and_then, codes, nat_eq, if◌then◌else◌}
+use Rattle.std.specs.Option.{option_or}
 use Rattle.std.specs.Result.{result_ok}
 use Rattle.std.specs.Cmp.Lexicographic.{pointwise}
 use Rattle.rws_msgs.specs.Fields.{text_at}
@@ -30,12 +31,7 @@ pub data Shows : List ℕ → List Variable → Type 0 where
 abbrev pub gtid_in : ℕ → Variable → Option Gtid
 gtid_in domain (name, value) = if pointwise nat_eq name (codes "last_gtid") then option_and_then (λ gtid. if gtid.domain == domain then Some gtid else None) (result_ok (gtid_at (0, value))) else None
 
--- the second of two, where it is there
-abbrev pub later : Option Gtid → Option Gtid → Option Gtid
-later earlier None = earlier
-later earlier (Some gtid) = Some gtid
-
 -- the last GTID of the domain
 abbrev pub last_gtid : ℕ → List Variable → Option Gtid
 last_gtid domain [] = None
-last_gtid domain (one ∷ others) = later (gtid_in domain one) (last_gtid domain others)
+last_gtid domain (one ∷ others) = option_or (last_gtid domain others) (gtid_in domain one)

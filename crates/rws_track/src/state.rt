@@ -1,7 +1,8 @@
 //! Reads the system variables in a session's state.
 
 ghost use Rattle.std.specs.Prelude.{◌≡◌, List, ℕ, IfOk, OnErr};
-ghost use Rattle.rws_track.specs.State.{Variable, AreVariables, EntryShows, Shows, gtid_in, later, last_gtid};
+ghost use Rattle.std.specs.Option.{option_or};
+ghost use Rattle.rws_track.specs.State.{Variable, AreVariables, EntryShows, Shows, gtid_in, last_gtid};
 
 use rws_gtid::{Gtid, parse};
 use rws_msgs::{MsgFault, split_text};
@@ -29,16 +30,6 @@ fn gtid_of_variable(name: &[u8], value: &[u8], domain: u32) -> Option<Gtid>
     }
 }
 
-/// The later of two, where it is there.
-fn later_of(earlier: Option<Gtid>, gtid: Option<Gtid>) -> Option<Gtid>
-    ensures { result ≡ later earlier gtid }
-{
-    match gtid {
-        Some(gtid) => Some(gtid),
-        None => earlier,
-    }
-}
-
 /// The last GTID of the domain among the variables, or else the one found before.
 fn last_in_variables(
     bytes: &[u8],
@@ -46,7 +37,7 @@ fn last_in_variables(
     found: Option<Gtid>,
 ) -> Result<Option<Gtid>, BrokenOff>
     ensures read { IfOk result (λ last. (variables : List Variable) × AreVariables bytes.now variables
-        × (last ≡ later found (last_gtid domain variables))) }
+        × (last ≡ option_or (last_gtid domain variables) found)) }
     ensures broken { OnErr result ((variables : List Variable) → ¬ AreVariables bytes.now variables) }
 {
     let mut last = found;
@@ -54,7 +45,7 @@ fn last_in_variables(
     while !rest.is_empty() {
         let (name, behind) = split_text(rest)?;
         let (value, others) = split_text(behind)?;
-        last = later_of(last, gtid_of_variable(name, value, domain));
+        last = gtid_of_variable(name, value, domain).or(last);
         rest = others;
     }
     Ok(last)
@@ -71,7 +62,7 @@ fn last_in_entry(
     found: Option<Gtid>,
 ) -> Result<Option<Gtid>, BrokenOff>
     ensures read { IfOk result (λ last. (shown : List Variable) × EntryShows kind bytes.now shown
-        × (last ≡ later found (last_gtid domain shown))) }
+        × (last ≡ option_or (last_gtid domain shown) found)) }
     ensures broken { OnErr result ((shown : List Variable) → ¬ EntryShows kind bytes.now shown) }
 {
     match kind {

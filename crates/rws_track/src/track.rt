@@ -16,7 +16,7 @@ const SESSION_STATE: u16 = 0x4000;
 /// The last GTID of the domain that the OK names in the system variable `last_gtid`. A state in which an entry or a
 /// variable breaks off names none.
 pub fn gtid_of(ok: &OkMsg, domain: u32) -> Option<Gtid>
-    // The variables of the state decide, and there is only one way to read them.
+    // The variables of the state decide.
     ensures named { (shown : List Variable) → Shows ok.now.state shown → result ≡ last_gtid domain shown }
     ensures whole { IsSome result → (shown : List Variable) × Shows ok.now.state shown }
 {

@@ -17,7 +17,7 @@ loop-rest-smaller c =
 
 pub loop-rest-preserved : goal.loop-rest-preserved
 loop-rest-preserved c =
-    rw (c.later_of-last.ensures, c.gtid_of_variable.ensures)
+    rw (c.or-last.ensures, c.gtid_of_variable.ensures)
     (one_variable c.args.domain c.args.found c.args.bytes.now c.loop-rest.rest.now c.loop-rest.last c.loop-rest.invariant c.in_ok-name.name.now c.in_ok-name.behind.now c.in_ok-value.value.now c.in_ok-value.others.now c.in_ok-name.ensures c.in_ok-value.ensures)
 
 pub returns-clause-read : goal.returns-clause-read
