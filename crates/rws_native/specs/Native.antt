@@ -1,5 +1,6 @@
--- The authentication plugin `mysql_native_password`: what a client answers to a scramble, and what a server that
--- stores only `SHA1(SHA1(password))` learns from the answer.
+-- The authentication plugin `mysql_native_password` ("Authentication Plugin - mysql_native_password", in MariaDB's
+-- protocol documentation): what a client answers to a scramble, and what a server that stores only
+-- `SHA1(SHA1(password))` learns from the answer.
 use Rattle.std.specs.Prelude.{ℕ, List, ◌++◌, map, bit_xor, slice_index}
 use Rattle.std.specs.List.{range_with_len}
 use Rattle.sha1.specs.Sha1.{sha1}

@@ -11,11 +11,11 @@ use std::marker::Model;
 mod tests;
 
 /// The length of a SHA-1 digest and of a scramble, in bytes.
-const DIGEST: usize = 20;
+const DIGEST_LEN: usize = 20;
 
 /// The first stage of a password, its SHA-1 digest. Who has it can log in without the password, so it has no `Debug`.
 #[derive(Clone, Copy, PartialEq, Eq)]
-pub struct Stage1([u8; DIGEST]);
+pub struct Stage1([u8; DIGEST_LEN]);
 
 impl Model for Stage1 {
     ghost Value = { List ℕ };
@@ -26,18 +26,18 @@ impl Model for Stage1 {
 }
 
 /// Mixes two digests byte by byte.
-fn mixed(left: &[u8; DIGEST], right: &[u8; DIGEST]) -> [u8; DIGEST]
+fn mixed(left: &[u8; DIGEST_LEN], right: &[u8; DIGEST_LEN]) -> [u8; DIGEST_LEN]
     ensures { result ≡ xor left.now right.now }
 {
-    let mut bytes = [0; DIGEST];
-    for i in 0..DIGEST {
+    let mut bytes = [0; DIGEST_LEN];
+    for i in 0..DIGEST_LEN {
         bytes[i] = left[i] ^ right[i];
     }
     bytes
 }
 
 /// The mask of a connection with this scramble.
-fn mask_of(scramble: &[u8; DIGEST], stored: &[u8; DIGEST]) -> [u8; DIGEST]
+fn mask_of(scramble: &[u8; DIGEST_LEN], stored: &[u8; DIGEST_LEN]) -> [u8; DIGEST_LEN]
     ensures { result ≡ mask scramble.now stored.now }
 {
     let mut hasher = Sha1::new();
@@ -69,7 +69,7 @@ pub fn check(answer: &[u8], scramble: &[u8; 20], stored: &[u8; 20]) -> Option<St
         ↔ ((length answer.now ≡ 20) × (sha1 (stage1_in answer.now scramble.now stored.now) ≡ stored.now)) }
     ensures stage1 { IfSome result (λ stage1. stage1 ≡ stage1_in answer.now scramble.now stored.now) }
 {
-    let Ok(answer) = <[u8; DIGEST]>::try_from(answer) else {
+    let Ok(answer) = <[u8; DIGEST_LEN]>::try_from(answer) else {
         return None;
     };
     let stage1 = mixed(&answer, &mask_of(scramble, stored));
