@@ -19,7 +19,7 @@ pub enum Awaits {
     /// A PrepareOk or an ERR.
     Prepare,
     /// So many more definitions of parameters, and an EOF; then those of so many columns.
-    Parameters(u16, u16),
+    Parameters { left: u16, columns: u16 },
     /// So many more definitions of a prepared statement's columns, and an EOF.
     Columns(u16),
     /// The first payload of a list of fields.
@@ -62,7 +62,10 @@ fn parameters_next(columns: u16, parameters: u16) -> Step
     if parameters == 0 {
         columns_next(columns, 0x0002)
     } else {
-        Step::Goes(Awaits::Parameters(parameters, columns))
+        Step::Goes(Awaits::Parameters {
+            left: parameters,
+            columns,
+        })
     }
 }
 
@@ -142,7 +145,10 @@ fn parameters(left: u16, columns: u16, payload: &[u8]) -> Step
             None => Step::Wrong,
         }
     } else if payload::definition(payload) {
-        Step::Goes(Awaits::Parameters(left - 1, columns))
+        Step::Goes(Awaits::Parameters {
+            left: left - 1,
+            columns,
+        })
     } else {
         Step::Wrong
     }
@@ -194,7 +200,7 @@ pub fn after(awaits: Awaits, payload: &[u8]) -> Step
         Awaits::Definitions(left) => definitions(left, payload),
         Awaits::Rows => rows(payload),
         Awaits::Prepare => prepare(payload),
-        Awaits::Parameters(left, after) => parameters(left, after, payload),
+        Awaits::Parameters { left, columns } => parameters(left, columns, payload),
         Awaits::Columns(left) => columns(left, payload),
         Awaits::FieldList => field_list(payload),
         Awaits::Fields => fields(payload),

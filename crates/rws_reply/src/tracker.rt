@@ -27,6 +27,7 @@ impl ReplyTracker {
     ghost use Rattle.rws_reply.specs.Replies.{Payload};
     ghost use Rattle.rws_reply.specs.Tracking.{Tracks, Judges};
 
+    /// A tracker for a reply of this kind, before its first payload.
     pub fn new(kind: Kind) -> ReplyTracker
         ensures { Tracks result kind [] }
     {
