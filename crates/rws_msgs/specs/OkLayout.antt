@@ -41,7 +41,7 @@ ok_at track payload = do
     state = texts.1;
   })
 
--- the info alone, or the info and the state where one is to stand; nothing in place of empty texts
+-- where a state is to stand the info and the state, elsewhere the info alone; nothing where these are empty
 unfoldable pub texts_bytes : Bool → List ℕ → List ℕ → List ℕ
 texts_bytes false [] state = []
 texts_bytes false info state = text_bytes info

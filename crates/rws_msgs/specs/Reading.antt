@@ -1,9 +1,10 @@
--- What a reader that takes memory returned.
+-- Reading that takes memory.
 use Rattle.std.specs.Prelude.{◌≡◌, Result, Ok, Err}
 use Rattle.rws_msgs.specs.declared.fault.MsgFault.{MsgFault}
 use Rattle.rws_msgs.specs.declared.fault.MsgFault.TheVariants.{Short, BadTag, Trailing, BadLenenc, OutOfMemory}
 
--- It is what the definition reads: the same value, or the same fault. Where memory was wanted nothing is known.
+-- What a reader returned is what the definition reads: the same value, or the same fault. Where there was no memory
+-- nothing is known.
 abbrev pub Gives : {X : Type 0} → Result X MsgFault → Result X MsgFault → Type 0
 Gives (Ok x) read = read ≡ Ok x
 Gives (Err OutOfMemory) read = Unit {0}

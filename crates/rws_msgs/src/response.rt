@@ -172,7 +172,8 @@ impl Response {
         ensures ok { OnOk result (out.new.items ≡ out.old.items ++ response_bytes self.now) }
         ensures err { OnErr result (out.new.items ≡ out.old.items) }
 
-        // It is decoded again where the names and the answer go with the flags and the texts have no zero byte.
+        // It is decoded again where the names and the answer go with the flags, and no zero byte stands in the user or a
+        // name.
         ensures again { IsResponse self.now → response_at (response_bytes self.now) ≡ Ok self.now }
     {
         let before = out.len();
