@@ -5,3 +5,4 @@ pub mod PayloadLemmas
 pub mod FramingLemmas
 pub mod GatheringLemmas
 pub mod DeframerLemmas
+pub mod BeginningLemmas

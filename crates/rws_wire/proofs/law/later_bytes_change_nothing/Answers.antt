@@ -1,0 +1,8 @@
+use Rattle.rws_wire.proofs.PayloadLemmas.{first_payload-Whole-append, first_payload-Faulty-append}
+use Rattle.rws_wire.proofs.law.later_bytes_change_nothing.Goals as goal
+
+pub returns-clause-payload : goal.returns-clause-payload
+returns-clause-payload c = first_payload-Whole-append
+
+pub returns-clause-fault : goal.returns-clause-fault
+returns-clause-fault c = first_payload-Faulty-append
