@@ -6,3 +6,4 @@ pub mod FramingLemmas
 pub mod GatheringLemmas
 pub mod DeframerLemmas
 pub mod BeginningLemmas
+pub mod StreamLemmas

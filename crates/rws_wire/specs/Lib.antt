@@ -7,3 +7,4 @@ pub mod Payloads
 pub mod Deframing
 pub mod Gathering
 pub mod Beginnings
+pub mod Streams

@@ -22,7 +22,7 @@ pub use deframer::Deframer;
 pub use drop_cause::DropCause;
 pub use fault::WireFault;
 pub use framing::frame;
-pub use law::{beginnings_are_read, later_bytes_change_nothing};
+pub use law::{beginnings_are_read, later_bytes_change_nothing, streams_are_read};
 pub use lenenc::{LenencFault, put_lenenc, read_lenenc, split_lenenc};
 pub use mode::Mode;
 pub use payload::Payload;
