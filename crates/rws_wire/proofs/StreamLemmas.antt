@@ -5,7 +5,7 @@ use Rattle.std.proofs.lemmas.List.Elements.{All-nil, All-cons, All-head, All-tai
 use Rattle.std.specs.Prelude.{All}
 use Rattle.rws_wire.specs.Numbers.{AreBytes}
 use Rattle.rws_wire.specs.Packets.{spelling, number_behind}
-use Rattle.rws_wire.specs.Streams.{stream_bytes, IsWithin, Reads, ends, goes_on, StreamsAreRead, StreamsAreKept}
+use Rattle.rws_wire.specs.Streams.{stream_bytes, IsWithin, IsStream, ends, goes_on, StreamsAreRead, StreamsAreKept}
 use Rattle.rws_wire.proofs.NumberLemmas.{AreBytes-drop}
 use Rattle.rws_wire.proofs.PayloadLemmas.{first_payload-spelling, first_payload_spelled, first_payload-Whole-append}
 
@@ -14,7 +14,7 @@ behind_fit front bytes behind is fit =
     subst AreBytes (ap (drop (length front)) is ∙ drop_at front behind (length front) refl) (AreBytes-drop (length front) bytes fit)
 
 -- what is read is spelled so
-reads_spelled : (limit : ℕ) (bytes : List ℕ) (payloads : List (ℕ × List ℕ)) (rest : List ℕ) → AreBytes bytes → Reads limit bytes payloads rest
+reads_spelled : (limit : ℕ) (bytes : List ℕ) (payloads : List (ℕ × List ℕ)) (rest : List ℕ) → AreBytes bytes → IsStream limit bytes payloads rest
     → (bytes ≡ stream_bytes payloads rest) × All (IsWithin limit) payloads
 reads_spelled limit bytes payloads rest fit (ends left) = (refl, All-nil (IsWithin limit))
 reads_spelled limit bytes payloads rest fit (goes_on first payload held behind others left e more) =
@@ -26,7 +26,7 @@ reads_spelled limit bytes payloads rest fit (goes_on first payload held behind o
 
 -- what is spelled is read so
 spelled_reads : (limit : ℕ) (payloads : List (ℕ × List ℕ)) (rest : List ℕ) → All (IsWithin limit) payloads
-    → Reads limit (stream_bytes payloads rest) payloads rest
+    → IsStream limit (stream_bytes payloads rest) payloads rest
 spelled_reads limit [] rest within = ends rest
 spelled_reads limit (one ∷ others) rest within =
     goes_on one.0 one.1 (spelling one.0 one.1 ++ stream_bytes others rest) (stream_bytes others rest) others rest
@@ -36,7 +36,7 @@ spelled_reads limit (one ∷ others) rest within =
 pub streams_are_read : StreamsAreRead
 streams_are_read limit bytes payloads rest fit = (
   λ reads. reads_spelled limit bytes payloads rest fit reads,
-  λ is. subst (λ (t : List ℕ). Reads limit t payloads rest) (sym is.0) (spelled_reads limit payloads rest is.1),
+  λ is. subst (λ (t : List ℕ). IsStream limit t payloads rest) (sym is.0) (spelled_reads limit payloads rest is.1),
 )
 
 pub streams_are_kept : StreamsAreKept
