@@ -5,3 +5,5 @@ pub mod PayloadLemmas
 pub mod FramingLemmas
 pub mod GatheringLemmas
 pub mod DeframerLemmas
+pub mod BeginningLemmas
+pub mod StreamLemmas

@@ -13,10 +13,10 @@ use Rattle.rws_wire.proofs.NumberLemmas.{number_of-bytes_of, number_of-lt, bytes
 
 -- ---- a header, then so many bytes
 
-with_too_large : (limit before announced : ℕ) (rest : List ℕ) → limit < before + announced → packet_with limit before announced rest ≡ Bad (TooLarge (before + announced))
+pub with_too_large : (limit before announced : ℕ) (rest : List ℕ) → limit < before + announced → packet_with limit before announced rest ≡ Bad (TooLarge (before + announced))
 with_too_large limit before announced rest above = rw (lt-ltb limit (before + announced) above) refl
 
-with_partial : (limit before announced : ℕ) (rest : List ℕ) → before + announced ≤ limit → length rest < announced → packet_with limit before announced rest ≡ Partial
+pub with_partial : (limit before announced : ℕ) (rest : List ℕ) → before + announced ≤ limit → length rest < announced → packet_with limit before announced rest ≡ Partial
 with_partial limit before announced rest within short = rw (le-ltb limit (before + announced) within, lt-ltb (length rest) announced short) refl
 
 pub with_full : (limit before announced : ℕ) (rest : List ℕ) → before + announced ≤ limit → announced ≤ length rest → announced ≡ full_packet → packet_with limit before announced rest ≡ More announced
@@ -90,7 +90,7 @@ pub record Front (number size : ℕ) (bytes : List ℕ) : Type 0 where
   pub whole : 4 + size ≤ length bytes
   pub small : AreBytes bytes → size < 2 ^ 24
 
-three_fit : (a b c number : ℕ) (rest : List ℕ) → AreBytes (a ∷ b ∷ c ∷ number ∷ rest) → AreBytes (a ∷ b ∷ c ∷ [])
+pub three_fit : (a b c number : ℕ) (rest : List ℕ) → AreBytes (a ∷ b ∷ c ∷ number ∷ rest) → AreBytes (a ∷ b ∷ c ∷ [])
 three_fit a b c number rest fit zero = fit 0
 three_fit a b c number rest fit (suc zero) = fit 1
 three_fit a b c number rest fit (suc (suc zero)) = fit 2

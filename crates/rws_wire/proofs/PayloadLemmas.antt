@@ -195,7 +195,7 @@ last_read limit number before payload rest small within =
     ∙ ap (λ (t : List ℕ). Whole (before ++ t) (next_number number) (drop (length payload) (payload ++ rest))) (take_at payload rest (length payload) refl)
     ∙ ap (λ (t : List ℕ). Whole (before ++ payload) (next_number number) t) (drop_at payload rest (length payload) refl)
 
-full_read : (limit number : ℕ) (before chunk rest : List ℕ) → length chunk ≡ full_packet → length before + length chunk ≤ limit
+pub full_read : (limit number : ℕ) (before chunk rest : List ℕ) → length chunk ≡ full_packet → length before + length chunk ≤ limit
     → payload_behind limit number before (packet number chunk ++ rest) ≡ payload_behind limit (next_number number) (before ++ chunk) rest
 full_read limit number before chunk rest same within =
     let long : length chunk ≤ length (chunk ++ rest) = omega (arith, length-append chunk rest) in

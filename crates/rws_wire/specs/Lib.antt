@@ -6,3 +6,5 @@ pub mod Packets
 pub mod Payloads
 pub mod Deframing
 pub mod Gathering
+pub mod Beginnings
+pub mod Streams
