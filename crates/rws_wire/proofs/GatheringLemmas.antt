@@ -36,9 +36,10 @@ gathers_last limit first bytes number before rest size r e = sym r.same ∙ behi
 pub last_spelled : (limit first : ℕ) (bytes : List ℕ) (number : ℕ) (before rest : List ℕ) (size : ℕ) → AreBytes bytes → Gathers limit first bytes number before rest
     → packet_of limit number (length before) rest ≡ Last size
     → (bytes ≡ spelling first (before ++ take size (drop 4 rest)) ++ drop size (drop 4 rest)) × (next_number number ≡ number_behind first (before ++ take size (drop 4 rest)))
+    × (length (before ++ take size (drop 4 rest)) ≤ limit)
 last_spelled limit first bytes number before rest size fit r e =
     let read = first_payload_spelled limit first bytes (before ++ take size (drop 4 rest)) (next_number number) (drop size (drop 4 rest)) fit (gathers_last limit first bytes number before rest size r e) in
-    (read.spelled, read.behind)
+    (read.spelled, read.behind, read.within)
 
 pub gathers_more : (limit first : ℕ) (bytes : List ℕ) (number : ℕ) (before rest : List ℕ) (size : ℕ) → Gathers limit first bytes number before rest
     → packet_of limit number (length before) rest ≡ More size

@@ -72,8 +72,8 @@ impl Deframer {
     pub fn next_payload(&mut self, first: u8) -> Result<Option<Payload>, WireFault>
         ensures answer { Answers self.old first result self.new }
 
-        // The bytes of a payload that was given are its one spelling.
-        ensures spelled { IfOk result (λ found. IfSome found (IsSpelled self.old.held first self.new.held)) }
+        // The bytes of a payload that was given are its one spelling, and it is within the limit.
+        ensures spelled { IfOk result (λ found. IfSome found (IsSpelled self.old.limit self.old.held first self.new.held)) }
     {
         match self.stopped {
             Some(fault) => Err(fault),
@@ -84,7 +84,7 @@ impl Deframer {
     fn read_payload(&mut self, first: u8) -> Result<Option<Payload>, WireFault>
         requires { self.old.stopped ≡ None }
         ensures answer { Answers self.old first result self.new }
-        ensures spelled { IfOk result (λ found. IfSome found (IsSpelled self.old.held first self.new.held)) }
+        ensures spelled { IfOk result (λ found. IfSome found (IsSpelled self.old.limit self.old.held first self.new.held)) }
     {
         let held = &self.bytes[self.start..];
         match look_at(held, first, self.limit) {

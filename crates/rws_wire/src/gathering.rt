@@ -61,7 +61,7 @@ pub fn gather(
     requires size { length bytes.now < 2 ^ 63 }
     requires whole { look_of (first_payload limit first bytes.now) ≡ Look.Whole }
     ensures gathers { IfOk result (λ read. first_payload limit first bytes.now ≡ Whole read.0.bytes read.0.next read.1.now) }
-    ensures spelled { IfOk result (λ read. IsSpelled bytes.now first read.1.now read.0) }
+    ensures spelled { IfOk result (λ read. IsSpelled limit bytes.now first read.1.now read.0) }
 {
     let mut number = first;
     let mut payload = Vec::new(alloc);

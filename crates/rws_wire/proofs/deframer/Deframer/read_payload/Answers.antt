@@ -40,4 +40,4 @@ returns-in_ok-payload-in-Whole-clause-spelled c =
     let h = rw c.deref.ensures.value at c.in_ok-payload-in-Whole.ensures.spelled in
     let t = is_behind d.start d.bytes.items (spelling c.args.first p.bytes) c.in_ok-payload-in-Whole.behind.now c.self.invariant.0 h.0 in
     let size : c.len.result ≡ length d.bytes.items = omega arith in
-    rw (size, ← c.self.view_is) (t.spelled, h.1)
+    rw (size, ← c.self.view_is) (t.spelled, h.1, h.2)
