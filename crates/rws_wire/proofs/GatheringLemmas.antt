@@ -9,7 +9,7 @@ use Rattle.rws_wire.specs.Packets.{next_number, number_behind, spelling}
 use Rattle.rws_wire.specs.Payloads.{packet_of, Beginning, Nothing, Whole, Faulty, payload_behind, first_payload}
 use Rattle.rws_wire.specs.Gathering.{look_of}
 use Rattle.rws_wire.specs.declared.gathering.Look.TheVariants as looks
-use Rattle.rws_wire.proofs.PayloadLemmas.{behind_partial, behind_bad, behind_more, behind_last, first_payload-is, first_payload_spelled, more_fits}
+use Rattle.rws_wire.proofs.PayloadLemmas.{behind_partial, behind_bad, behind_more, behind_last, first_payload-is, first_payload_spelled, more_fits, last_fits}
 
 -- what is read behind the bytes so far is what all bytes begin with
 pub record Gathers (limit first : ℕ) (bytes : List ℕ) (number : ℕ) (before rest : List ℕ) : Type 0 where
@@ -71,16 +71,21 @@ looks_bad limit first bytes number before rest fault l e =
     ap look_of (gathers_bad limit first bytes number l.seen rest fault l.gathers (ap (λ (n : ℕ). packet_of limit number n rest) l.long ∙ e))
 
 pub looks_last : (limit first : ℕ) (bytes : List ℕ) (number before : ℕ) (rest : List ℕ) (size : ℕ) → Looks limit first bytes number before rest
-    → packet_of limit number before rest ≡ Last size → look_of (first_payload limit first bytes) ≡ looks.Whole
+    → packet_of limit number before rest ≡ Last size → look_of (first_payload limit first bytes) ≡ looks.Whole (before + size)
 looks_last limit first bytes number before rest size l e =
+    let fits : 4 + size ≤ length rest = last_fits limit number before rest size e in
+    let chunk : List ℕ = take size (drop 4 rest) in
+    let len : length chunk ≡ size = omega (arith, length-take size (drop 4 rest), length-drop 4 rest) in
+    let total : length (l.seen ++ chunk) ≡ before + size = length-append l.seen chunk ∙ omega (arith, l.long) in
     ap look_of (gathers_last limit first bytes number l.seen rest size l.gathers (ap (λ (n : ℕ). packet_of limit number n rest) l.long ∙ e))
+    ∙ ap (λ (n : ℕ). looks.Whole n) total
 
 -- what is whole is neither partial nor faulty
-pub whole_not_partial : (beginning : Beginning) → look_of beginning ≡ looks.Whole → beginning ≡ Nothing → ⊥
-whole_not_partial beginning whole e = let same = sym (ap look_of e) ∙ whole in cc
+pub whole_not_partial : (beginning : Beginning) (size : ℕ) → look_of beginning ≡ looks.Whole size → beginning ≡ Nothing → ⊥
+whole_not_partial beginning size whole e = let same = sym (ap look_of e) ∙ whole in cc
 
-pub whole_not_bad : (beginning : Beginning) (fault : WireFault) → look_of beginning ≡ looks.Whole → beginning ≡ Faulty fault → ⊥
-whole_not_bad beginning fault whole e = let same = sym (ap look_of e) ∙ whole in cc
+pub whole_not_bad : (beginning : Beginning) (size : ℕ) (fault : WireFault) → look_of beginning ≡ looks.Whole size → beginning ≡ Faulty fault → ⊥
+whole_not_bad beginning size fault whole e = let same = sym (ap look_of e) ∙ whole in cc
 
 pub looks_more : (limit first : ℕ) (bytes : List ℕ) (number before : ℕ) (rest : List ℕ) (size : ℕ) → Looks limit first bytes number before rest
     → packet_of limit number before rest ≡ More size

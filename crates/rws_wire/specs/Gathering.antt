@@ -9,7 +9,7 @@ use Rattle.rws_wire.specs.Payloads.{Beginning, Nothing, Whole, Faulty}
 -- what headers alone tell of what bytes begin with
 abbrev pub look_of : Beginning → Look
 look_of Nothing = looks.Partial
-look_of (Whole payload next rest) = looks.Whole
+look_of (Whole payload next rest) = looks.Whole (length payload)
 look_of (Faulty fault) = looks.Bad fault
 
 -- the payload's spelling is what stood in front of the rest, and its length is within the limit

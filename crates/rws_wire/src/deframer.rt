@@ -93,8 +93,8 @@ impl Deframer {
                 self.stopped = Some(fault);
                 Err(fault)
             }
-            Look::Whole => {
-                let (payload, behind) = gather(self.alloc, held, first, self.limit)?;
+            Look::Whole(size) => {
+                let (payload, behind) = gather(self.alloc, held, first, self.limit, size)?;
                 self.start = self.bytes.len() - behind.len();
                 Ok(Some(payload))
             }
