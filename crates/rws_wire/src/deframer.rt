@@ -80,7 +80,7 @@ impl Deframer {
     /// The payload that the held bytes begin with, if its first packet is to have the number `first`; None where
     /// they begin with no whole payload and no fault. A fault shows at the fourth byte of a header: a wrong number
     /// first, then a length that lifts the payload above the limit. After a fault every call answers it again, whatever
-    /// its number. Only a whole payload takes memory; where there is none the payload stays, and can be asked for again.
+    /// its number. Only a whole payload takes memory; where memory runs out the payload stays, and can be asked for again.
     pub fn next_payload(&mut self, first: u8) -> Result<Option<Payload>, WireFault>
         ensures answer { Answers self.old first result self.new }
 
