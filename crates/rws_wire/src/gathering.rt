@@ -51,22 +51,22 @@ pub fn look_at(bytes: &[u8], first: u8, limit: u64) -> Look
     }
 }
 
-// The whole payload that the bytes begin with, of `size` bytes, and the bytes behind it. It takes room for that
+// The whole payload that the bytes begin with, of `total` bytes, and the bytes behind it. It takes room for that
 // many bytes and no more, as its owner may keep it for long.
 pub fn gather(
     alloc: Global,
     bytes: &[u8],
     first: u8,
     limit: u64,
-    size: usize,
+    total: usize,
 ) -> Result<(Payload, &[u8]), AllocError>
     requires fits { length bytes.now < 2 ^ 63 }
-    requires whole { look_of (first_payload limit first bytes.now) ≡ Look.Whole size }
+    requires whole { look_of (first_payload limit first bytes.now) ≡ Look.Whole total }
     ensures gathers { IfOk result (λ read. first_payload limit first bytes.now ≡ Whole read.0.bytes read.0.next read.1.now) }
     ensures spelled { IfOk result (λ read. IsSpelled limit bytes.now first read.1.now read.0) }
 {
     let mut number = first;
-    let mut payload = Vec::with_capacity(alloc, size)?;
+    let mut payload = Vec::with_capacity(alloc, total)?;
     let mut rest = bytes;
     'packets: loop {
         match packet_of(rest, number, payload.len(), limit) {

@@ -10,13 +10,13 @@ pub unreachable-requires : goal.unreachable-requires
 unreachable-requires c =
     let same : c.len.result ≡ length c.packets.payload.items = omega arith in
     let read = at_length c.args.limit c.packets.number c.len.result c.packets.payload.items c.packets.rest.now Partial same c.in-Partial.ensures in
-    whole_not_partial _ c.args.size c.requires.whole (gathers_partial c.args.limit c.args.first c.args.bytes.now c.packets.number c.packets.payload.items c.packets.rest.now c.packets.invariant read)
+    whole_not_partial _ c.args.total c.requires.whole (gathers_partial c.args.limit c.args.first c.args.bytes.now c.packets.number c.packets.payload.items c.packets.rest.now c.packets.invariant read)
 
 pub unreachable-requires-in-Bad : goal.unreachable-requires-in-Bad
 unreachable-requires-in-Bad c =
     let same : c.len.result ≡ length c.packets.payload.items = omega arith in
     let read = at_length c.args.limit c.packets.number c.len.result c.packets.payload.items c.packets.rest.now (Bad c.in-Bad.field-0) same c.in-Bad.ensures in
-    whole_not_bad _ c.args.size _ c.requires.whole (gathers_bad c.args.limit c.args.first c.args.bytes.now c.packets.number c.packets.payload.items c.packets.rest.now c.in-Bad.field-0 c.packets.invariant read)
+    whole_not_bad _ c.args.total _ c.requires.whole (gathers_bad c.args.limit c.args.first c.args.bytes.now c.packets.number c.packets.payload.items c.packets.rest.now c.in-Bad.field-0 c.packets.invariant read)
 
 pub returns-in-Last-clause-gathers : goal.returns-in-Last-clause-gathers
 returns-in-Last-clause-gathers c =
