@@ -16,7 +16,7 @@ pub enum CloseReason {
         want: u8,
         got: u8,
     },
-    /// A command of the client, or the long data of one of its statements, comes to `length` bytes, above the limit.
+    /// A command of the client, or the long data of one of its statements, comes to `length` bytes or more, above the limit.
     TooLarge {
         length: u64,
     },

@@ -1,5 +1,6 @@
 // Payloads out of bytes that come in pieces.
-ghost use Rattle.std.specs.Prelude.{◌≡◌, ◌++◌, List, ℕ, [], length, None, OnOk, OnErr, IfOk, IfSome};
+ghost use Rattle.std.specs.Prelude.{◌≡◌, ◌≤◌, ◌++◌, List, ℕ, [], length, None, OnOk, OnErr, IfOk, IfSome};
+ghost use Rattle.std.specs.Vec.{vec_capacity};
 ghost use Rattle.rws_wire.specs.Deframing.{Answers};
 ghost use Rattle.rws_wire.specs.Gathering.{IsSpelled};
 
@@ -8,12 +9,23 @@ use crate::{Payload, WireFault};
 use std::alloc::{AllocError, Global};
 use std::marker::Model;
 
+#[cfg(test)]
+mod tests;
+
+/// The most room that an empty buffer keeps. With that much, payloads of usual size need no memory anew. A larger one
+/// grows the buffer again, by doubling, which moves less than twice the bytes that are held then.
+const KEPT_ROOM: usize = 0x10_0000;
+
 /// Takes the bytes of a stream in pieces and gives its payloads.
 ///
-/// A piece is appended to a buffer, and a payload is copied out of it once it is whole. What was handed out is cut off
-/// the buffer when it is more than what is left, so the moves cost no more than the bytes that were fed; asking for a
-/// payload that isn't whole reads a header for each 16 MiB of it. So the cost grows as the bytes do, however they are
-/// cut into pieces. The buffer keeps the room of the most bytes that it held.
+/// A piece is appended to a buffer, and a payload is copied out of it once it is whole. When a piece comes, what was
+/// handed out is cut off the buffer if it is more than what is left, so the moves cost no more than the bytes that were
+/// fed; asking for a payload that isn't whole reads a header for each 16 MiB of it. So the cost grows as the bytes do,
+/// however they are cut into pieces.
+///
+/// After a piece the buffer has at most as many handed-out bytes as there were others before it. Its room grows by
+/// doubling, and is kept while bytes are left; as soon as all are handed out it is emptied, and room of more than 1 MiB
+/// is given back. A payload has room for its bytes and no more.
 #[derive(Debug, Drop)]
 pub struct Deframer {
     alloc: Global,
@@ -68,12 +80,12 @@ impl Deframer {
     /// The payload that the held bytes begin with, if its first packet is to have the number `first`; None where
     /// they begin with no whole payload and no fault. A fault shows at the fourth byte of a header: a wrong number
     /// first, then a length that lifts the payload above the limit. After a fault every call answers it again, whatever
-    /// its number. Only a whole payload takes memory; where there is none the payload stays, and can be asked for again.
+    /// its number. Only a whole payload takes memory; where memory runs out the payload stays, and can be asked for again.
     pub fn next_payload(&mut self, first: u8) -> Result<Option<Payload>, WireFault>
         ensures answer { Answers self.old first result self.new }
 
-        // The bytes of a payload that was given are its one spelling.
-        ensures spelled { IfOk result (λ found. IfSome found (IsSpelled self.old.held first self.new.held)) }
+        // The bytes of a payload that was given are its one spelling, and it is within the limit.
+        ensures spelled { IfOk result (λ found. IfSome found (IsSpelled self.old.limit self.old.held first self.new.held)) }
     {
         match self.stopped {
             Some(fault) => Err(fault),
@@ -84,7 +96,7 @@ impl Deframer {
     fn read_payload(&mut self, first: u8) -> Result<Option<Payload>, WireFault>
         requires { self.old.stopped ≡ None }
         ensures answer { Answers self.old first result self.new }
-        ensures spelled { IfOk result (λ found. IfSome found (IsSpelled self.old.held first self.new.held)) }
+        ensures spelled { IfOk result (λ found. IfSome found (IsSpelled self.old.limit self.old.held first self.new.held)) }
     {
         let held = &self.bytes[self.start..];
         match look_at(held, first, self.limit) {
@@ -93,9 +105,10 @@ impl Deframer {
                 self.stopped = Some(fault);
                 Err(fault)
             }
-            Look::Whole => {
-                let (payload, behind) = gather(self.alloc, held, first, self.limit)?;
+            Look::Whole(size) => {
+                let (payload, behind) = gather(self.alloc, held, first, self.limit, size)?;
                 self.start = self.bytes.len() - behind.len();
+                self.give_back();
                 Ok(Some(payload))
             }
         }
@@ -111,5 +124,26 @@ impl Deframer {
             self.bytes.truncate(left);
             self.start = 0;
         }
+    }
+
+    // Empties the buffer where nothing is left in it.
+    fn give_back(&mut self)
+        ensures { self.new ≡ self.old }
+    {
+        if self.start == self.bytes.len() {
+            empty(&mut self.bytes);
+            self.start = 0;
+        }
+    }
+}
+
+// Takes all bytes out, and gives back the room of a buffer that has grown large.
+fn empty(bytes: &mut Vec<u8>)
+    ensures items { bytes.new.items ≡ [] }
+    ensures room { vec_capacity bytes.new ≤ KEPT_ROOM }
+{
+    bytes.clear();
+    if bytes.capacity() > KEPT_ROOM {
+        bytes.shrink_to_fit();
     }
 }

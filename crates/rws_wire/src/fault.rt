@@ -1,4 +1,4 @@
-// Why the bytes of a stream begin with no payload.
+// Why no payload was read from a stream.
 ghost use Rattle.std.specs.Prelude.{◌≡◌};
 ghost use Rattle.rws_wire.specs.declared.fault.WireFault.TheVariants.{OutOfMemory};
 
@@ -11,7 +11,7 @@ pub enum WireFault {
     OutOfOrder { want: u8, got: u8 },
     /// The packets announce a payload of `length` bytes or more, above the limit.
     TooLarge { length: u64 },
-    /// There was no memory for the payload.
+    /// There was no memory for a whole payload, which can be asked for again.
     OutOfMemory,
 }
 

@@ -22,8 +22,8 @@ fn split_packet(bytes: &[u8], size: usize) -> (&[u8], &[u8])
 pub enum Look {
     /// No whole payload as yet, and no fault.
     Partial,
-    /// A whole payload.
-    Whole,
+    /// A whole payload of so many bytes.
+    Whole(usize),
     /// A fault.
     Bad(WireFault),
 }
@@ -41,7 +41,7 @@ pub fn look_at(bytes: &[u8], first: u8, limit: u64) -> Look
         match packet_of(rest, number, before, limit) {
             Packet::Partial => return Look::Partial,
             Packet::Bad(fault) => return Look::Bad(fault),
-            Packet::Last(_) => return Look::Whole,
+            Packet::Last(size) => return Look::Whole(before + size),
             Packet::More(size) => {
                 before += size;
                 rest = split_packet(rest, size).1;
@@ -51,20 +51,22 @@ pub fn look_at(bytes: &[u8], first: u8, limit: u64) -> Look
     }
 }
 
-// The whole payload that the bytes begin with, and the bytes behind it.
+// The whole payload that the bytes begin with, of `total` bytes, and the bytes behind it. It takes room for that
+// many bytes and no more, as its owner may keep it for long.
 pub fn gather(
     alloc: Global,
     bytes: &[u8],
     first: u8,
     limit: u64,
+    total: usize,
 ) -> Result<(Payload, &[u8]), AllocError>
-    requires size { length bytes.now < 2 ^ 63 }
-    requires whole { look_of (first_payload limit first bytes.now) ≡ Look.Whole }
+    requires fits { length bytes.now < 2 ^ 63 }
+    requires whole { look_of (first_payload limit first bytes.now) ≡ Look.Whole total }
     ensures gathers { IfOk result (λ read. first_payload limit first bytes.now ≡ Whole read.0.bytes read.0.next read.1.now) }
-    ensures spelled { IfOk result (λ read. IsSpelled bytes.now first read.1.now read.0) }
+    ensures spelled { IfOk result (λ read. IsSpelled limit bytes.now first read.1.now read.0) }
 {
     let mut number = first;
-    let mut payload = Vec::new(alloc);
+    let mut payload = Vec::with_capacity(alloc, total)?;
     let mut rest = bytes;
     'packets: loop {
         match packet_of(rest, number, payload.len(), limit) {

@@ -1,5 +1,5 @@
-//! Bytes on the wire: texts, packets and payloads, length-encoded integers, and the words that several
-//! crates share for the end of a session or a link.
+//! Bytes on the wire: texts, packets and payloads, length-encoded integers. Beside them stand words that several
+//! crates share: why a session or a link ends, and which commits a read waits for.
 #![tactic(auto)]
 
 mod close_reason;

@@ -25,21 +25,27 @@ fn lenencs(rt: HostRuntime) -> Result<(), Fail> {
 
 #[test]
 fn payloads_in_pieces(rt: HostRuntime) -> Result<(), Fail> {
-    let stream = [1, 0, 0, 255, 14, 0, 0, 0, 0, 2, 0, 0, 7, 1, 1, 9];
+    let stream = [1, 0, 0, 255, 14, 0, 0, 0, 0, 2, 0, 0, 1, 15, 16, 9];
     let mut deframer = Deframer::new(rt.alloc(), 2);
     let mut numbers = Vec::new(rt.alloc());
-    for byte in &stream[..10] {
-        deframer.feed(&[*byte])?;
+    let mut payloads = PayloadList::new(rt.alloc());
+    for piece in stream.chunks(1) {
+        deframer.feed(piece)?;
         let due = numbers.last().copied().unwrap_or(255);
         if let Some(payload) = deframer.next_payload(due)? {
             numbers.push(payload.next)?;
+            payloads.push(payload.bytes)?;
         }
     }
-    assert_eq!(rt; numbers.as_slice(), [0, 1].as_slice());
-    assert_eq!(rt; deframer.held(), 1);
-    deframer.feed(&stream[10..])?;
-    let payload = deframer.next_payload(7)?;
-    assert_eq!(rt; payload.map(|payload| payload.next), Some(8));
+    assert_eq!(rt; numbers.as_slice(), [0, 1, 2].as_slice());
+    assert_eq!(rt; payloads.len(), 3);
+    for (payload, bytes) in payloads
+        .as_slice()
+        .iter()
+        .zip([[14].as_slice(), &[], &[15, 16]])
+    {
+        assert_eq!(rt; payload.as_slice(), bytes);
+    }
     assert_eq!(rt; deframer.held(), 1);
     Ok(())
 }
@@ -55,18 +61,24 @@ fn faults(rt: HostRuntime) -> Result<(), Fail> {
         deframer.feed(&header[3..])?;
         assert_eq!(rt; deframer.next_payload(0).err(), Some(fault));
         assert_eq!(rt; deframer.next_payload(1).err(), Some(fault));
+        assert_eq!(rt; deframer.held(), 4);
     }
     Ok(())
 }
 
-fn filled(alloc: Global, size: usize) -> Result<Vec<u8>, AllocError> {
-    vec![in alloc; 7u8; size]
+// Bytes in a pattern whose length divides that of no piece, so that pieces that are mixed up show.
+fn patterned(alloc: Global, size: usize) -> Result<Vec<u8>, AllocError> {
+    let mut bytes = Vec::with_capacity(alloc, size)?;
+    for at in 0..size {
+        bytes.push((at % 251) as u8)?;
+    }
+    Ok(bytes)
 }
 
 #[test]
 fn full_packet_has_an_empty_one_behind(rt: HostRuntime) -> Result<(), Fail> {
     let mut out = Vec::new(rt.alloc());
-    let payload = filled(rt.alloc(), packet::FULL_PACKET)?;
+    let payload = vec![in rt.alloc(); 7u8; packet::FULL_PACKET]?;
     assert_eq!(rt; frame(&payload, 0, &mut out)?, 2);
     assert_eq!(rt; out.len(), 16_777_223);
     assert_eq!(rt; out.as_slice().last_chunk::<4>(), Some(&[0, 0, 0, 1]));
@@ -76,19 +88,18 @@ fn full_packet_has_an_empty_one_behind(rt: HostRuntime) -> Result<(), Fail> {
 // Linear in the bytes: a reader that copied what it holds at each piece would move 128 GiB here.
 #[test]
 fn large_payload_in_small_pieces(rt: HostRuntime) -> Result<(), Fail> {
-    let payload = filled(rt.alloc(), 2 * packet::FULL_PACKET + 5)?;
+    let payload = patterned(rt.alloc(), 2 * packet::FULL_PACKET + 5)?;
     let mut stream = Vec::new(rt.alloc());
     let next = frame(&payload, 254, &mut stream)?;
     let mut deframer = Deframer::new(rt.alloc(), 0x400_0000);
     let mut read = None;
     for piece in stream.chunks(4096) {
-        assert_eq!(rt; read, None);
+        assert!(rt; read.is_none());
         deframer.feed(piece)?;
-        if let Some(payload) = deframer.next_payload(254)? {
-            read = Some((payload.bytes.len(), payload.next));
-        }
+        read = deframer.next_payload(254)?;
     }
-    assert_eq!(rt; read, Some((payload.len(), next)));
+    let is_same = read.map(|read| read.next == next && read.bytes.as_slice() == payload.as_slice());
+    assert_eq!(rt; is_same, Some(true));
     assert_eq!(rt; next, 1);
     Ok(())
 }

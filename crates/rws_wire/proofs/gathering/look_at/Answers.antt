@@ -13,7 +13,7 @@ pub returns-in-Bad : goal.returns-in-Bad
 returns-in-Bad c = sym (looks_bad c.args.limit c.args.first c.args.bytes.now c.packets.number c.packets.before c.packets.rest.now c.in-Bad.fault c.packets.invariant (sym c.in-Bad.ensures))
 
 pub returns-in-Last : goal.returns-in-Last
-returns-in-Last c = sym (looks_last c.args.limit c.args.first c.args.bytes.now c.packets.number c.packets.before c.packets.rest.now c.in-Last.field-0 c.packets.invariant (sym c.in-Last.ensures))
+returns-in-Last c = sym (looks_last c.args.limit c.args.first c.args.bytes.now c.packets.number c.packets.before c.packets.rest.now c.in-Last.size c.packets.invariant (sym c.in-Last.ensures))
 
 pub packets-preserved : goal.packets-preserved
 packets-preserved c =

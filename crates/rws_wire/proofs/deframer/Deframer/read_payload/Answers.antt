@@ -31,7 +31,7 @@ returns-in_ok-payload-in-Whole-clause-answer c =
     let size : c.len.result ≡ length d.bytes.items = omega arith in
     let whole = rw c.deref.ensures.value at c.in_ok-payload-in-Whole.ensures.gathers in
     let read = next_unstopped c.args.self.now c.args.first d.limit d.start d.bytes.items _ c.requires (ap (λ (v : Deframing). v.limit) c.self.view_is) (ap (λ (v : Deframing). v.held) c.self.view_is) whole in
-    (rw (size, t.left) read, rw (← c.self.view_is) refl)
+    (rw (c.give_back.ensures, size, t.left) read, rw (c.give_back.ensures, ← c.self.view_is) refl)
 
 pub returns-in_ok-payload-in-Whole-clause-spelled : goal.returns-in_ok-payload-in-Whole-clause-spelled
 returns-in_ok-payload-in-Whole-clause-spelled c =
@@ -40,4 +40,4 @@ returns-in_ok-payload-in-Whole-clause-spelled c =
     let h = rw c.deref.ensures.value at c.in_ok-payload-in-Whole.ensures.spelled in
     let t = is_behind d.start d.bytes.items (spelling c.args.first p.bytes) c.in_ok-payload-in-Whole.behind.now c.self.invariant.0 h.0 in
     let size : c.len.result ≡ length d.bytes.items = omega arith in
-    rw (size, ← c.self.view_is) (t.spelled, h.1)
+    rw (c.give_back.ensures, size, ← c.self.view_is) (t.spelled, h.1, h.2)
