@@ -188,7 +188,8 @@ pub fn position_of(list: &[u8], domain: u32) -> Result<Option<Gtid>, GtidFault>
     ensures read { result ≡ position_in domain list.now }
 
     // What is read is a list that is spelled so, and a list that is spelled so is read.
-    ensures spelled { IfOk result (λ found. (gtids : List Gtid) × (list.now ≡ list_text gtids) × (found ≡ entry_of domain gtids)) }
+    ensures spelled { IfOk result (λ found. (gtids : List Gtid) × AreInRange gtids × (list.now ≡ list_text gtids)
+        × (found ≡ entry_of domain gtids)) }
     ensures only { (gtids : List Gtid) → AreInRange gtids → list.now ≡ list_text gtids → result ≡ Ok (entry_of domain gtids) }
 {
     first_of(list, domain)
