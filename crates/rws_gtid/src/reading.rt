@@ -136,7 +136,7 @@ pub fn parse(text: &[u8]) -> Result<Gtid, GtidFault>
     ensures read { result ≡ gtid_at (0, text.now) }
 
     // What is read is spelled so, and what is spelled so is read.
-    ensures spelled { IfOk result (λ gtid. text.now ≡ gtid_text gtid) }
+    ensures spelled { IfOk result (λ gtid. IsInRange gtid × (text.now ≡ gtid_text gtid)) }
     ensures only { (gtid : Gtid) → IsInRange gtid → text.now ≡ gtid_text gtid → result ≡ Ok gtid }
 {
     whole_gtid(Rest { at: 0, bytes: text })
