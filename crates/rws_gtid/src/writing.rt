@@ -1,4 +1,4 @@
-//! Writes a GTID, and the statement that waits for one.
+// Writes a GTID, and the statement that waits for one.
 
 ghost use Rattle.std.specs.Prelude.{◌≡◌, IfOk, Ok, Some};
 ghost use Rattle.rws_gtid.specs.Reading.{gtid_at};
@@ -28,8 +28,8 @@ pub fn print(alloc: Global, gtid: Gtid) -> Result<Text, AllocError>
     Ok(Text::new(text.into_bytes()))
 }
 
-/// The statement `SELECT MASTER_GTID_WAIT('G', T)`, by which a replica waits until it has the GTID, for at most this
-/// many seconds.
+/// The statement `SELECT MASTER_GTID_WAIT('G', T)`, by which a replica waits until its position reaches the GTID, for at
+/// most this many seconds. Its one row holds 0 once the position is reached, and -1 where the seconds ran out before.
 pub fn wait_text(alloc: Global, gtid: Gtid, seconds: u32) -> Result<Text, AllocError>
     ensures { IfOk result (λ text. text ≡ wait_statement gtid seconds) }
 {
