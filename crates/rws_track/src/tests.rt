@@ -13,6 +13,9 @@ const NAMED: &[u8] = b"\x00\x01\x00\x02\x40\x00\x00\x00\x12\x00\x10\x09last_gtid
 const STATE: &[u8] =
     b"\x01\x02\x01t\x00\x20\x09last_gtid\x050-1-7\x09last_gtid\x050-1-8\x00\x14\x09last_gtid\x051-1-9\x01a\x01b";
 
+/// Where the second entry of `STATE` ends, which names GTIDs of domain 0. Only the third names one of domain 1.
+const SECOND_ENDS: usize = 38;
+
 fn ok_with(alloc: Global, state: &[u8]) -> Result<OkMsg, AllocError> {
     Ok(OkMsg {
         affected: 0,
@@ -66,6 +69,7 @@ fn several_entries(rt: HostRuntime) -> Result<(), Fail> {
     assert_eq!(rt; gtid_of(&ok_with(alloc, b"\x00\x02\xfba")?, 0), None);
     for end in 0..STATE.len() {
         let cut = ok_with(alloc, &STATE[..end])?;
+        assert_eq!(rt; gtid_of(&cut, 0).is_some(), end == SECOND_ENDS);
         assert!(rt; gtid_of(&cut, 1).is_none());
     }
     Ok(())
