@@ -21,35 +21,41 @@ use Rattle.rws_gtid.proofs.Commas.{is_comma}
 
 -- the entries are the texts of these GTIDs
 abbrev Spells : List (List ℕ) → List Gtid → Type 0
-Spells entries gtids = entries ≡ map gtid_text gtids
+Spells entries gtids = AreInRange gtids × (entries ≡ map gtid_text gtids)
 
 entries_spelled : (entries : List (List ℕ)) (at : ℕ) (gtids : List Gtid) → entries_at at entries ≡ Ok gtids → Spells entries gtids
 unfolding entries_at
-entries_spelled [] at gtids e = subst (Spells []) (done_is [] gtids e) refl
+entries_spelled [] at gtids e = subst (Spells []) (done_is [] gtids e) (tt, refl)
 entries_spelled (entry ∷ entries) at gtids e =
     let one = bind_ok _ _ gtids e in
     let others = bind_ok _ _ gtids one.2 in
-    let text = (gtid_takes (at, entry) one.0 one.1).1 in
-    let texts = entries_spelled entries _ others.0 others.1 in
+    let first = gtid_takes (at, entry) one.0 one.1 in
+    let rest = entries_spelled entries _ others.0 others.1 in
     subst (Spells (entry ∷ entries)) (done_is (one.0 ∷ others.0) gtids others.2)
-    (ap (λ (t : List ℕ). t ∷ entries) text ∙ ap (λ (ts : List (List ℕ)). gtid_text one.0 ∷ ts) texts)
+    ((first.0, rest.0), ap (λ (t : List ℕ). t ∷ entries) first.1 ∙ ap (λ (ts : List (List ℕ)). gtid_text one.0 ∷ ts) rest.1)
 
 parted : (b : ℕ) (bs : List ℕ) → gtids_of (b ∷ bs) ≡ entries_at 0 (slice_split is_comma (b ∷ bs))
 unfolding gtids_of
 parted b bs = rw (not_zero (length (b ∷ bs)) (omega arith)) refl
 
-list_spelled : (list : List ℕ) (gtids : List Gtid) → gtids_of list ≡ Ok gtids → list ≡ list_text gtids
-unfolding gtids_of
-list_spelled [] gtids e = subst (λ (gs : List Gtid). [] ≡ list_text gs) (done_is [] gtids e) refl
-list_spelled (b ∷ bs) gtids e =
-    sym (join_with_byte-slice_split 44 (b ∷ bs)) ∙ ap (join_with_byte 44) (entries_spelled (slice_split is_comma (b ∷ bs)) 0 gtids (sym (parted b bs) ∙ e))
+-- the list is the text of these GTIDs
+abbrev ListSpells : List ℕ → List Gtid → Type 0
+ListSpells list gtids = AreInRange gtids × (list ≡ list_text gtids)
 
-pub position_spelled : (domain : ℕ) (list : List ℕ) (r : Result (Option Gtid) GtidFault) → r ≡ position_in domain list → IfOk r (λ found. (gtids : List Gtid) × (list ≡ list_text gtids) × (found ≡ entry_of domain gtids))
+list_spelled : (list : List ℕ) (gtids : List Gtid) → gtids_of list ≡ Ok gtids → ListSpells list gtids
+unfolding gtids_of
+list_spelled [] gtids e = subst (ListSpells []) (done_is [] gtids e) (tt, refl)
+list_spelled (b ∷ bs) gtids e =
+    let entries = entries_spelled (slice_split is_comma (b ∷ bs)) 0 gtids (sym (parted b bs) ∙ e) in
+    (entries.0, sym (join_with_byte-slice_split 44 (b ∷ bs)) ∙ ap (join_with_byte 44) entries.1)
+
+pub position_spelled : (domain : ℕ) (list : List ℕ) (r : Result (Option Gtid) GtidFault) → r ≡ position_in domain list → IfOk r (λ found. (gtids : List Gtid) × AreInRange gtids × (list ≡ list_text gtids) × (found ≡ entry_of domain gtids))
 unfolding position_in
 position_spelled domain list (Err fault) e = tt
 position_spelled domain list (Ok found) e =
     let read = bind_ok (gtids_of list) _ found (sym e) in
-    (read.0, list_spelled list read.0 read.1, done_is found _ (sym read.2))
+    let spelled = list_spelled list read.0 read.1 in
+    (read.0, spelled.0, spelled.1, done_is found _ (sym read.2))
 
 -- ---- what is spelled so is read
 

@@ -209,6 +209,6 @@ gtid_again at gtid fits =
       number_end (2 ^ 64 - 1) _ gtid.sequence (omega arith) (omega (arith, fits.sequence)),
     ) refl
 
-pub spelled_if_ok : (text : List ℕ) (r : Result Gtid GtidFault) → r ≡ gtid_at (0, text) → IfOk r (λ gtid. text ≡ gtid_text gtid)
-spelled_if_ok text (Ok gtid) e = (gtid_takes (0, text) gtid (sym e)).1
+pub spelled_if_ok : (text : List ℕ) (r : Result Gtid GtidFault) → r ≡ gtid_at (0, text) → IfOk r (λ gtid. IsInRange gtid × (text ≡ gtid_text gtid))
+spelled_if_ok text (Ok gtid) e = gtid_takes (0, text) gtid (sym e)
 spelled_if_ok text (Err fault) e = tt

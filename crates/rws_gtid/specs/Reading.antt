@@ -1,6 +1,6 @@
 -- Reading a GTID, or a list of them, from left to right, with the first fault that is met ("Global Transaction ID", in
 -- MariaDB's documentation).
-use Rattle.std.specs.Prelude.{◌≡◌, slice_index, ℕ, ◌+◌, ◌^◌, ◌==◌, not, List, [], ◌∷◌, length, drop, Option, None, Result, Ok, Err, nat_le, Some, ◌-◌, if◌then◌else◌, find}
+use Rattle.std.specs.Prelude.{◌≡◌, ℕ, ◌+◌, ◌^◌, ◌==◌, not, List, [], ◌∷◌, length, drop, Option, None, Result, Ok, Err, nat_le, Some, ◌-◌, if◌then◌else◌, find}
 use Rattle.std.specs.List.{before_first, slice_split}
 use Rattle.std.specs.Char.{is_ascii_digit}
 use Rattle.std.specs.Str.Parse.{digits_value}
@@ -35,7 +35,8 @@ number_at most rest =
 
 -- the dash between two numbers
 unfoldable pub dash_at : Rest → Result Rest GtidFault
-dash_at rest = if slice_index rest.1 0 == 45 then Ok (behind 1 rest) else Err (NotAGtid rest.0)
+dash_at (at, []) = Err (NotAGtid at)
+dash_at (at, first ∷ bytes) = if first == 45 then Ok (at + 1, bytes) else Err (NotAGtid at)
 
 -- the GTID that fills the text
 unfoldable pub gtid_at : Rest → Result Gtid GtidFault

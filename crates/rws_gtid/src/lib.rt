@@ -12,8 +12,11 @@ pub use writing::{print, wait_text};
 /// A global transaction identifier of MariaDB, printed as `domain-server-sequence`.
 #[derive(Clone, Copy, Debug, PartialEq, Eq)]
 pub struct Gtid {
+    /// The replication domain. Servers keep a position in each domain.
     pub domain: u32,
+    /// The id of the server that first committed the transaction.
     pub server: u32,
+    /// The number of the transaction in its domain, counted up with each commit.
     pub sequence: u64,
 }
 

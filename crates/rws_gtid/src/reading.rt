@@ -1,6 +1,6 @@
-//! Reads a GTID, or a list of them, and names the place of the first fault.
+// Reads a GTID, or a list of them, and names the place of the first fault.
 
-ghost use Rattle.std.specs.Prelude.{◌≡◌, ◌==◌, ◌+◌, ◌*◌, ◌^◌, ◌<◌, ◌≤◌, length, IfOk, IfSome, List, not, nat_le, position, option_map};
+ghost use Rattle.std.specs.Prelude.{◌≡◌, ◌==◌, ◌+◌, ◌*◌, ◌^◌, ◌<◌, ◌≤◌, length, IfOk, List, not, position, option_map};
 ghost use Rattle.std.specs.List.{before_first};
 ghost use Rattle.std.specs.Char.{digit_value, is_ascii_digit};
 ghost use Rattle.std.specs.Str.Parse.{digits_value, AllDigits};
@@ -11,7 +11,7 @@ ghost use Rattle.rws_gtid.specs.declared.Gtid.{Gtid};
 
 use crate::{Gtid, GtidFault};
 
-/// What is left of a text, and its place in the whole.
+// What is left of a text, and its place in the whole.
 #[derive(Clone, Copy)]
 struct Rest<'a> {
     at: usize,
@@ -19,14 +19,14 @@ struct Rest<'a> {
     ghost fits: { at + length bytes.now < 2 ^ 64 },
 }
 
-/// The place of the first byte that is no digit.
+// The place of the first byte that is no digit.
 fn first_other(bytes: &[u8]) -> Option<usize>
     ensures { result ≡ position (λ c. not (is_ascii_digit c)) bytes.now }
 {
     bytes.iter().position(|byte| !byte.is_ascii_digit())
 }
 
-/// The digits up to the first byte that is none.
+// The digits up to the first byte that is none.
 fn digit_run(bytes: &[u8]) -> &[u8]
     ensures { result.now ≡ before_first (λ c. not (is_ascii_digit c)) bytes.now }
 {
@@ -36,7 +36,7 @@ fn digit_run(bytes: &[u8]) -> &[u8]
     }
 }
 
-/// The digits of the number at the front: no number begins with a 0 but 0 itself.
+// The digits of the number at the front: no number begins with a 0 but 0 itself.
 fn digits(bytes: &[u8]) -> &[u8]
     ensures value { result.now ≡ digits_of bytes.now }
     ensures digits { AllDigits 10 result.now }
@@ -49,7 +49,7 @@ fn digits(bytes: &[u8]) -> &[u8]
     }
 }
 
-/// The number with one more digit, or nothing where it is above `most`.
+// The number with one more digit, or nothing where it is above `most`.
 fn with_digit(value: u64, digit: u8, most: u64) -> Option<u64>
     requires { digit_value digit < 10 }
     ensures { result ≡ at_most most (value * 10 + digit_value digit) }
@@ -61,7 +61,7 @@ fn with_digit(value: u64, digit: u8, most: u64) -> Option<u64>
     Some(next)
 }
 
-/// The number that the digits write, or nothing where it is above `most`.
+// The number that the digits write, or nothing where it is above `most`.
 fn value_up_to(digits: &[u8], most: u64) -> Option<u64>
     requires { AllDigits 10 digits.now }
     ensures { result ≡ at_most most (digits_value 10 digits.now) }
@@ -73,7 +73,7 @@ fn value_up_to(digits: &[u8], most: u64) -> Option<u64>
     Some(value)
 }
 
-/// The number at the front, at most `most`, and what stands behind it.
+// The number at the front, at most `most`, and what stands behind it.
 #[tactic(auto, unfolding(crate::specs::Reading::number_at))]
 fn number<'a>(rest: Rest<'a>, most: u64) -> Result<(u64, Rest<'a>), GtidFault>
     ensures small { IfOk result (λ x. x.0 ≤ most) }
@@ -89,7 +89,7 @@ fn number<'a>(rest: Rest<'a>, most: u64) -> Result<(u64, Rest<'a>), GtidFault>
     Ok((value, behind(rest, digits.len())))
 }
 
-/// What stands behind the first `count` bytes.
+// What stands behind the first `count` bytes.
 fn behind<'a>(rest: Rest<'a>, count: usize) -> Rest<'a>
     requires { count ≤ length rest.bytes.now }
     ensures { (result.at, result.bytes.now) ≡ behind count (rest.entry.at, rest.entry.bytes.now) }
@@ -100,6 +100,7 @@ fn behind<'a>(rest: Rest<'a>, count: usize) -> Rest<'a>
     }
 }
 
+// What stands behind the dash at the front.
 #[tactic(auto, unfolding(crate::specs::Reading::dash_at))]
 fn dash<'a>(rest: Rest<'a>) -> Result<Rest<'a>, GtidFault>
     ensures { Reads (λ x. (x.at, x.bytes.now)) result (dash_at (rest.entry.at, rest.entry.bytes.now)) }
@@ -110,7 +111,7 @@ fn dash<'a>(rest: Rest<'a>) -> Result<Rest<'a>, GtidFault>
     }
 }
 
-/// The GTID that the text is.
+// The GTID that the text is.
 #[tactic(auto, unfolding(crate::specs::Reading::gtid_at))]
 fn whole_gtid(text: Rest<'_>) -> Result<Gtid, GtidFault>
     ensures { result ≡ gtid_at (text.entry.at, text.entry.bytes.now) }
@@ -130,26 +131,26 @@ fn whole_gtid(text: Rest<'_>) -> Result<Gtid, GtidFault>
     })
 }
 
-/// The GTID that the text is: three decimal numbers without signs or leading zeros, parted by dashes. A number that
-/// is too big is named before any fault behind its first digit.
+/// The GTID that the text is: three decimal numbers without signs or leading zeros, parted by dashes. The first fault
+/// from the left is the answer, and a number that is too big counts as one at its first digit.
 pub fn parse(text: &[u8]) -> Result<Gtid, GtidFault>
     ensures read { result ≡ gtid_at (0, text.now) }
 
     // What is read is spelled so, and what is spelled so is read.
-    ensures spelled { IfOk result (λ gtid. text.now ≡ gtid_text gtid) }
+    ensures spelled { IfOk result (λ gtid. IsInRange gtid × (text.now ≡ gtid_text gtid)) }
     ensures only { (gtid : Gtid) → IsInRange gtid → text.now ≡ gtid_text gtid → result ≡ Ok gtid }
 {
     whole_gtid(Rest { at: 0, bytes: text })
 }
 
-/// The place of the first comma.
+// The place of the first comma.
 fn first_comma(list: &[u8]) -> Option<usize>
     ensures { result ≡ position (λ c. c == 44) list.now }
 {
     list.iter().position(|byte| *byte == b',')
 }
 
-/// The bytes before the first comma, and those behind it where there is one.
+// The bytes before the first comma, and those behind it where there is one.
 fn cut_at_comma(list: &[u8]) -> (&[u8], Option<&[u8]>)
     ensures { CutsAtComma list.now result.0.now (option_map (λ behind. behind.now) result.1) }
 {
@@ -159,7 +160,7 @@ fn cut_at_comma(list: &[u8]) -> (&[u8], Option<&[u8]>)
     }
 }
 
-/// The first entry of the domain in a list.
+// The first entry of the domain in a list.
 fn first_of(list: &[u8], domain: u32) -> Result<Option<Gtid>, GtidFault>
     ensures { result ≡ position_in domain list.now }
 {
@@ -181,14 +182,15 @@ fn first_of(list: &[u8], domain: u32) -> Result<Option<Gtid>, GtidFault>
     }
 }
 
-/// The first entry of the domain in a list of GTIDs that commas part, as `@@gtid_current_pos` shows them. The
-/// empty text is the list without entries. Where the list has a fault anywhere, the first fault is the answer, at its
-/// place in the whole list.
+/// The first entry of the domain in a list of GTIDs that commas part, as `@@gtid_current_pos` shows them; `None` where
+/// no entry is of the domain. The empty text is the list without entries. Where the list has a fault anywhere, the first
+/// fault is the answer, at its place in the whole list.
 pub fn position_of(list: &[u8], domain: u32) -> Result<Option<Gtid>, GtidFault>
     ensures read { result ≡ position_in domain list.now }
 
     // What is read is a list that is spelled so, and a list that is spelled so is read.
-    ensures spelled { IfOk result (λ found. (gtids : List Gtid) × (list.now ≡ list_text gtids) × (found ≡ entry_of domain gtids)) }
+    ensures spelled { IfOk result (λ found. (gtids : List Gtid) × AreInRange gtids × (list.now ≡ list_text gtids)
+        × (found ≡ entry_of domain gtids)) }
     ensures only { (gtids : List Gtid) → AreInRange gtids → list.now ≡ list_text gtids → result ≡ Ok (entry_of domain gtids) }
 {
     first_of(list, domain)

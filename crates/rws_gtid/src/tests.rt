@@ -1,4 +1,4 @@
-//! Texts of GTIDs that are read and written.
+// Texts of GTIDs that are read and written.
 
 use crate::{Gtid, GtidFault, parse, position_of, print, wait_text};
 use std::test::Fail;

@@ -1,6 +1,7 @@
-//! Writes a GTID, and the statement that waits for one.
+// Writes a GTID, and the statement that waits for one.
 
-ghost use Rattle.std.specs.Prelude.{◌≡◌, IfOk, Some};
+ghost use Rattle.std.specs.Prelude.{◌≡◌, IfOk, Ok, Some};
+ghost use Rattle.rws_gtid.specs.Reading.{gtid_at};
 ghost use Rattle.rws_gtid.specs.Spelling.{gtid_text, wait_statement};
 
 use crate::Gtid;
@@ -18,14 +19,17 @@ impl fmt::Display for Gtid {
 
 /// The text of the GTID.
 pub fn print(alloc: Global, gtid: Gtid) -> Result<Text, AllocError>
-    ensures { IfOk result (λ text. text ≡ gtid_text gtid) }
+    ensures text { IfOk result (λ text. text ≡ gtid_text gtid) }
+
+    // `parse` gives the GTID back.
+    ensures again { IfOk result (λ text. gtid_at (0, text) ≡ Ok gtid) }
 {
     let text = gtid.to_string(alloc)?;
     Ok(Text::new(text.into_bytes()))
 }
 
-/// The statement `SELECT MASTER_GTID_WAIT('G', T)`, by which a replica waits until it has the GTID, for at most this
-/// many seconds.
+/// The statement `SELECT MASTER_GTID_WAIT('G', T)`, by which a replica waits until its position reaches the GTID, for at
+/// most this many seconds. Its one row holds 0 once the position is reached, and -1 where the seconds ran out before.
 pub fn wait_text(alloc: Global, gtid: Gtid, seconds: u32) -> Result<Text, AllocError>
     ensures { IfOk result (λ text. text ≡ wait_statement gtid seconds) }
 {

@@ -6,6 +6,8 @@
 
 mod login;
 mod native;
+#[cfg(test)]
+mod tests;
 
 pub use login::Login;
 pub use native::{Stage1, answer, check, relay, stage1_of};

@@ -1,9 +1,9 @@
-//! What a proxy keeps of a client's login, so that it can log in at a server as that client.
+// What a proxy keeps of a client's login, so that it can log in at a server as that client.
 
 use crate::Stage1;
 use rws_wire::Text;
 
-/// A login that was accepted.
+/// A login that was accepted. Who has its first stage can log in as the client, so it has no `Debug`.
 #[derive(Clone, PartialEq, Eq, Drop)]
 pub struct Login {
     pub user: Text,

@@ -1,4 +1,4 @@
-//! Answers to a scramble, the check of an answer, and the relay of a login to another server.
+// Answers to a scramble, the check of an answer, and the relay of a login to another server.
 
 ghost use Rattle.std.specs.Prelude.{◌≡◌, ◌↔◌, List, ℕ, length, IsSome, IfSome};
 ghost use Rattle.sha1.specs.Sha1.{sha1};
@@ -7,10 +7,7 @@ ghost use Rattle.rws_native.specs.Native.{xor, mask, answer_of, stage1_in};
 use sha1::Sha1;
 use std::marker::Model;
 
-#[cfg(test)]
-mod tests;
-
-/// The length of a SHA-1 digest and of a scramble, in bytes.
+// The length of a SHA-1 digest and of a scramble, in bytes.
 const DIGEST_LEN: usize = 20;
 
 /// The first stage of a password, its SHA-1 digest. Who has it can log in without the password, so it has no `Debug`.
@@ -25,7 +22,7 @@ impl Model for Stage1 {
     ghost inverse = { λ bytes. record { 0 = bytes } };
 }
 
-/// Mixes two digests byte by byte.
+// Mixes two digests byte by byte.
 fn mixed(left: &[u8; DIGEST_LEN], right: &[u8; DIGEST_LEN]) -> [u8; DIGEST_LEN]
     ensures { result ≡ xor left.now right.now }
 {
@@ -36,7 +33,7 @@ fn mixed(left: &[u8; DIGEST_LEN], right: &[u8; DIGEST_LEN]) -> [u8; DIGEST_LEN]
     bytes
 }
 
-/// The mask of a connection with this scramble.
+// The mask of a connection with this scramble.
 fn mask_of(scramble: &[u8; DIGEST_LEN], stored: &[u8; DIGEST_LEN]) -> [u8; DIGEST_LEN]
     ensures { result ≡ mask scramble.now stored.now }
 {
@@ -63,7 +60,8 @@ pub fn answer(password: &[u8], scramble: &[u8; 20]) -> [u8; 20]
     relay(&stage1_of(password), scramble)
 }
 
-/// The first stage, where the answer proves that the client knows the password. `stored` is `SHA1(SHA1(password))`.
+/// The first stage, where the answer proves that the client knows the password. `None` where it doesn't: it has not 20
+/// bytes, as the empty answer, or what it holds isn't the first stage of `stored`, which is `SHA1(SHA1(password))`.
 pub fn check(answer: &[u8], scramble: &[u8; 20], stored: &[u8; 20]) -> Option<Stage1>
     ensures accepted { IsSome result
         ↔ ((length answer.now ≡ 20) × (sha1 (stage1_in answer.now scramble.now stored.now) ≡ stored.now)) }

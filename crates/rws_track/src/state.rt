@@ -1,4 +1,4 @@
-//! Reads the system variables in a session's state.
+// Reads the system variables in a session's state.
 
 ghost use Rattle.std.specs.Prelude.{◌≡◌, List, ℕ, IfOk, OnErr};
 ghost use Rattle.std.specs.Option.{option_or};
@@ -7,7 +7,7 @@ ghost use Rattle.rws_track.specs.State.{Variable, AreVariables, EntryShows, Show
 use rws_gtid::{Gtid, parse};
 use rws_msgs::{MsgFault, split_text};
 
-/// An entry or a variable breaks off.
+// An entry or a variable breaks off.
 #[derive(Drop)]
 pub struct BrokenOff;
 
@@ -17,7 +17,7 @@ impl From<MsgFault> for BrokenOff {
     }
 }
 
-/// The GTID of the domain that the variable names.
+// The GTID of the domain that the variable names.
 fn gtid_of_variable(name: &[u8], value: &[u8], domain: u32) -> Option<Gtid>
     ensures { result ≡ gtid_in domain (name.now, value.now) }
 {
@@ -30,7 +30,7 @@ fn gtid_of_variable(name: &[u8], value: &[u8], domain: u32) -> Option<Gtid>
     }
 }
 
-/// The last GTID of the domain among the variables, or else the one found before.
+// The last GTID of the domain among the variables, or else the one found before.
 fn last_in_variables(
     bytes: &[u8],
     domain: u32,
@@ -51,10 +51,10 @@ fn last_in_variables(
     Ok(last)
 }
 
-/// The type of an entry that holds system variables, `SESSION_TRACK_SYSTEM_VARIABLES`.
+// The type of an entry that holds system variables, `SESSION_TRACK_SYSTEM_VARIABLES`.
 const VARIABLES: u8 = 0;
 
-/// The last GTID of the domain that the entry names, or else the one found before.
+// The last GTID of the domain that the entry names, or else the one found before.
 fn last_in_entry(
     kind: u8,
     bytes: &[u8],
@@ -71,7 +71,7 @@ fn last_in_entry(
     }
 }
 
-/// The last GTID of the domain that the state names.
+// The last GTID of the domain that the state names.
 pub fn last_in_state(state: &[u8], domain: u32) -> Result<Option<Gtid>, BrokenOff>
     ensures read { IfOk result (λ last. (shown : List Variable) × Shows state.now shown
         × (last ≡ last_gtid domain shown)) }

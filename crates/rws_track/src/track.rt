@@ -1,4 +1,4 @@
-//! The GTID that an OK names, and the form of an OK for a client that doesn't track the session's state.
+// The GTID that an OK names, and the form of an OK for a client that doesn't track the session's state.
 
 ghost use Rattle.std.specs.Prelude.{◌≡◌, List, IfOk, IsSome};
 ghost use Rattle.rws_track.specs.State.{Variable, Shows, last_gtid};
@@ -10,11 +10,11 @@ use rws_msgs::OkMsg;
 use rws_wire::Text;
 use std::alloc::{AllocError, Global};
 
-/// Status bit `SERVER_SESSION_STATE_CHANGED`.
+// Status bit `SERVER_SESSION_STATE_CHANGED`.
 const SESSION_STATE: u16 = 0x4000;
 
-/// The last GTID of the domain that the OK names in the system variable `last_gtid`. A state in which an entry or a
-/// variable breaks off names none.
+/// The last GTID of the domain that the OK names in the system variable `last_gtid`. `None` where it names none, or where
+/// an entry or a variable of its state breaks off.
 pub fn gtid_of(ok: &OkMsg, domain: u32) -> Option<Gtid>
     // The variables of the state decide.
     ensures named { (shown : List Variable) → Shows ok.now.state shown → result ≡ last_gtid domain shown }
