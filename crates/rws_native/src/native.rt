@@ -7,6 +7,9 @@ ghost use Rattle.rws_native.specs.Native.{xor, mask, answer_of, stage1_in};
 use sha1::Sha1;
 use std::marker::Model;
 
+#[cfg(test)]
+mod tests;
+
 // The length of a SHA-1 digest and of a scramble, in bytes.
 const DIGEST_LEN: usize = 20;
 
