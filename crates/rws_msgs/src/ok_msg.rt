@@ -1,8 +1,8 @@
 // The OK of a reply.
-ghost use Rattle.std.specs.Prelude.{◌≡◌, ◌++◌, List, ℕ, Ok, length, take, OnOk, OnErr};
+ghost use Rattle.std.specs.Prelude.{◌≡◌, ◌++◌, false, [], Ok, length, take, OnOk, OnErr, IfOk};
 ghost use Rattle.std.specs.Option.{option_map};
 ghost use Rattle.std.specs.Result.{result_ok};
-ghost use Rattle.rws_msgs.specs.OkLayout.{OkFits, ok_at, ok_bytes, state_at, texts_at, texts_bytes};
+ghost use Rattle.rws_msgs.specs.OkLayout.{IsOkMsg, OkFits, ok_at, ok_bytes, state_at, texts_at, texts_bytes};
 ghost use Rattle.rws_msgs.specs.OkParts.{ok_of};
 ghost use Rattle.rws_msgs.specs.Reading.{Gives};
 ghost use Rattle.rws_wire.specs.Reading.{Reads};
@@ -45,7 +45,8 @@ struct Parts<'a> {
 
 #[tactic(auto, unfolding(crate::specs::OkLayout::state_at))]
 fn state_of(stated: bool, bytes: &[u8]) -> Result<(&[u8], &[u8]), MsgFault>
-    ensures { Reads (λ x. (x.0.now, x.1.now)) result (state_at stated bytes.now) }
+    ensures reads { Reads (λ x. (x.0.now, x.1.now)) result (state_at stated bytes.now) }
+    ensures none { IfOk result (λ x. stated ≡ false → x.0.now ≡ []) }
 {
     if stated {
         split_text(bytes)
@@ -56,7 +57,8 @@ fn state_of(stated: bool, bytes: &[u8]) -> Result<(&[u8], &[u8]), MsgFault>
 
 #[tactic(auto, unfolding(crate::specs::OkLayout::texts_at, crate::specs::Fields::ended))]
 fn texts_of(stated: bool, bytes: &[u8]) -> Result<(&[u8], &[u8]), MsgFault>
-    ensures { Reads (λ x. (x.0.now, x.1.now)) result (texts_at stated bytes.now) }
+    ensures reads { Reads (λ x. (x.0.now, x.1.now)) result (texts_at stated bytes.now) }
+    ensures none { IfOk result (λ x. stated ≡ false → x.1.now ≡ []) }
 {
     if bytes.is_empty() {
         return Ok((&[], &[]));
@@ -69,7 +71,8 @@ fn texts_of(stated: bool, bytes: &[u8]) -> Result<(&[u8], &[u8]), MsgFault>
 
 #[tactic(auto, unfolding(crate::specs::OkLayout::ok_at))]
 fn parts_of(payload: &[u8], track: bool) -> Result<Parts<'_>, MsgFault>
-    ensures { Reads ok_of result (ok_at track payload.now) }
+    ensures reads { Reads ok_of result (ok_at track payload.now) }
+    ensures is { IfOk result (λ parts. IsOkMsg track (ok_of parts)) }
 {
     let rest = fixed_at(0x00, payload)?;
     let (affected, rest) = lenenc_at(rest)?;
@@ -101,7 +104,8 @@ pub fn ok_status(payload: &[u8], track: bool) -> Option<u16>
 impl OkMsg {
     /// The OK in a payload. `track` says that both sides have CLIENT_SESSION_TRACK.
     pub fn decode(alloc: Global, payload: &[u8], track: bool) -> Result<OkMsg, MsgFault>
-        ensures { Gives result (ok_at track payload.now) }
+        ensures gives { Gives result (ok_at track payload.now) }
+        ensures is { IfOk result (λ ok. IsOkMsg track ok) }
     {
         let parts = parts_of(payload, track)?;
         Ok(OkMsg {
@@ -122,9 +126,8 @@ impl OkMsg {
         ensures ok { OnOk result (out.new.items ≡ out.old.items ++ ok_bytes track self.now) }
         ensures err { OnErr result (out.new.items ≡ out.old.items) }
 
-        // What was decoded is decoded again.
-        ensures again { (payload : List ℕ) → ok_at track payload ≡ Ok self.now
-            → ok_at track (ok_bytes track self.now) ≡ Ok self.now }
+        // It is decoded again where it has no state that isn't written.
+        ensures again { IsOkMsg track self.now → ok_at track (ok_bytes track self.now) ≡ Ok self.now }
     {
         let before = out.len();
         or_cut(self.put(track, out), before, out)

@@ -3,8 +3,8 @@ ghost use Rattle.std.specs.Prelude.{◌≡◌, ◌++◌, Ok, OnOk, OnErr, IfOk, 
 ghost use Rattle.rws_msgs.specs.Fields.{HasNoZero};
 ghost use Rattle.rws_msgs.specs.Reading.{Gives};
 ghost use Rattle.rws_wire.specs.Reading.{Reads};
-ghost use Rattle.rws_msgs.specs.ResponseLayout.{AnswerFits, IsResponse, NameFits, answer_at, answer_bytes, attributes_at, attributes_bytes, front_bytes, has, name_at, name_bytes, names_at, names_bytes, response_at, response_bytes, with_database, with_lenenc, with_plugin};
-ghost use Rattle.rws_msgs.specs.ResponseParts.{ResponseFits, name_of, response_of};
+ghost use Rattle.rws_msgs.specs.ResponseLayout.{IsAnswer, IsName, IsResponse, ResponseFits, answer_at, answer_bytes, attributes_at, attributes_bytes, front_bytes, has, name_at, name_bytes, names_at, names_bytes, response_at, response_bytes, with_database, with_lenenc, with_plugin};
+ghost use Rattle.rws_msgs.specs.ResponseParts.{name_of, response_of};
 
 use crate::MsgFault;
 use crate::reading::{bytes_at, end, last_text_at, split_text, u8_at, u32_at, zero_text_at};
@@ -55,9 +55,9 @@ fn has(flags: u32, bit: u32) -> bool
     flags & bit != 0
 }
 
-#[tactic(auto, using(crate::proofs::FieldLemmas::bytes_size), unfolding(crate::specs::ResponseLayout::answer_at))]
+#[tactic(auto, unfolding(crate::specs::ResponseLayout::answer_at))]
 fn answer_of(lenenc: bool, bytes: &[u8]) -> Result<(&[u8], &[u8]), MsgFault>
-    ensures fits { IfOk result (λ x. AnswerFits lenenc x.0.now) }
+    ensures fits { IfOk result (λ x. IsAnswer lenenc x.0.now) }
     ensures reads { Reads (λ x. (x.0.now, x.1.now)) result (answer_at lenenc bytes.now) }
 {
     if lenenc {
@@ -70,7 +70,7 @@ fn answer_of(lenenc: bool, bytes: &[u8]) -> Result<(&[u8], &[u8]), MsgFault>
 #[tactic(auto, unfolding(crate::specs::ResponseLayout::name_at))]
 fn name_at(given: bool, last: bool, bytes: &[u8]) -> Result<(Option<&[u8]>, &[u8]), MsgFault>
     ensures reads { Reads (λ x. (name_of x.0, x.1.now)) result (name_at given last bytes.now) }
-    ensures fits { IfOk result (λ x. NameFits given (name_of x.0)) }
+    ensures fits { IfOk result (λ x. IsName given (name_of x.0)) }
 {
     if !given {
         return Ok((None, bytes));
@@ -103,8 +103,8 @@ struct Names<'a> {
 #[tactic(auto, unfolding(crate::specs::ResponseLayout::names_at, crate::specs::Fields::ended))]
 fn names_of(flags: u32, bytes: &[u8]) -> Result<Names<'_>, MsgFault>
     ensures reads { Reads (λ names. (name_of names.database, name_of names.plugin)) result (names_at flags bytes.now) }
-    ensures database { IfOk result (λ names. NameFits (with_database flags) (name_of names.database)) }
-    ensures plugin { IfOk result (λ names. NameFits (with_plugin flags) (name_of names.plugin)) }
+    ensures database { IfOk result (λ names. IsName (with_database flags) (name_of names.database)) }
+    ensures plugin { IfOk result (λ names. IsName (with_plugin flags) (name_of names.plugin)) }
 {
     let plugged = has(flags, PLUGIN_AUTH);
     let listed = has(flags, CONNECT_ATTRS);
