@@ -54,6 +54,7 @@ pub fn err_code(payload: &[u8]) -> Option<u16>
 
 impl ErrMsg {
     /// The error in a payload.
+    #[tactic(auto, using(crate::proofs::MemoryLemmas::err_never))]
     pub fn decode(alloc: Global, payload: &[u8]) -> Result<ErrMsg, MsgFault>
         ensures { Gives result (err_at payload.now) }
     {

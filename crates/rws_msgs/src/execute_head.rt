@@ -112,6 +112,7 @@ fn parts_of(payload: &[u8], parameters: u16) -> Result<Parts<'_>, MsgFault>
 
 impl ExecuteHead {
     /// The execute in a payload, of a statement with so many parameters.
+    #[tactic(auto, using(crate::proofs::MemoryLemmas::execute_never))]
     pub fn decode(alloc: Global, payload: &[u8], parameters: u16) -> Result<ExecuteHead, MsgFault>
         ensures gives { Gives result (execute_at parameters payload.now) }
         ensures is { IfOk result (λ head. IsExecuteHead parameters head) }

@@ -125,6 +125,7 @@ fn parts_of(payload: &[u8]) -> Result<Parts<'_>, MsgFault>
 impl Greeting {
     /// The greeting in a payload. The data length and the filler may hold anything; a plugin that lacks its zero byte
     /// ends with the payload.
+    #[tactic(auto, using(crate::proofs::MemoryLemmas::greeting_never))]
     pub fn decode(alloc: Global, payload: &[u8]) -> Result<Greeting, MsgFault>
         ensures gives { Gives result (greeting_at payload.now) }
         ensures version { IfOk result (λ greeting. HasNoZero greeting.version) }

@@ -103,6 +103,7 @@ pub fn ok_status(payload: &[u8], track: bool) -> Option<u16>
 
 impl OkMsg {
     /// The OK in a payload. `track` says that both sides have CLIENT_SESSION_TRACK.
+    #[tactic(auto, using(crate::proofs::MemoryLemmas::ok_never))]
     pub fn decode(alloc: Global, payload: &[u8], track: bool) -> Result<OkMsg, MsgFault>
         ensures gives { Gives result (ok_at track payload.now) }
         ensures is { IfOk result (λ ok. IsOkMsg track ok) }

@@ -150,6 +150,7 @@ fn copied(alloc: Global, name: Option<&[u8]>) -> Result<Option<Text>, MsgFault>
 impl Response {
     /// The response in a payload. The greatest packet, the filler and the attributes are read over. The last text, a
     /// database or a plugin behind which nothing is to stand, may lack its zero byte.
+    #[tactic(auto, using(crate::proofs::MemoryLemmas::response_never))]
     pub fn decode(alloc: Global, payload: &[u8]) -> Result<Response, MsgFault>
         ensures gives { Gives result (response_at payload.now) }
         ensures fits { IfOk result IsResponse }

@@ -42,6 +42,7 @@ fn parts_of(payload: &[u8]) -> Result<Parts<'_>, MsgFault>
 
 impl Switch {
     /// The switch in a payload.
+    #[tactic(auto, using(crate::proofs::MemoryLemmas::switch_never))]
     pub fn decode(alloc: Global, payload: &[u8]) -> Result<Switch, MsgFault>
         ensures gives { Gives result (switch_at payload.now) }
         ensures no_zero { IfOk result (λ switch. HasNoZero switch.plugin) }
