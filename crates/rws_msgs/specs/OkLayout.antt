@@ -1,6 +1,8 @@
 -- OK_Packet of a client with CLIENT_PROTOCOL_41. Under CLIENT_SESSION_TRACK the info may be followed by the
 -- session's changes; without it the payload may end in an info too, in the form that MariaDB writes.
-use Rattle.std.specs.Prelude.{◌≡◌, ℕ, ◌<◌, ◌^◌, length, Bool, true, false, ◌&&◌, not, List, [], ◌∷◌, ◌++◌, ◌==◌, bit_and, Result, Ok}
+use Rattle.std.specs.Prelude.{◌≡◌, ℕ, ◌<◌, ◌^◌, length, Bool, true, false, ◌&&◌, not, List, [], ◌∷◌, ◌++◌, ◌==◌, bit_and, Option, Result, Ok}
+use Rattle.std.specs.Option.{option_map}
+use Rattle.std.specs.Result.{result_ok}
 use Rattle.rws_wire.specs.Lenenc.{lenenc_bytes}
 use Rattle.rws_wire.specs.Numbers.{bytes_of}
 use Rattle.rws_msgs.specs.declared.fault.MsgFault.{MsgFault}
@@ -40,6 +42,10 @@ ok_at track payload = do
     info = texts.0;
     state = texts.1;
   })
+
+-- the status of an OK, where the payload is one
+unfoldable pub ok_status : Bool → List ℕ → Option ℕ
+ok_status track payload = option_map (λ ok. ok.status) (result_ok (ok_at track payload))
 
 -- where a state is to stand the info and the state, elsewhere the info alone; nothing where these are empty
 unfoldable pub texts_bytes : Bool → List ℕ → List ℕ → List ℕ

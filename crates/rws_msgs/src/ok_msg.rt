@@ -1,8 +1,6 @@
 // The OK of a reply.
 ghost use Rattle.std.specs.Prelude.{◌≡◌, ◌++◌, false, [], Ok, length, take, OnOk, OnErr, IfOk};
-ghost use Rattle.std.specs.Option.{option_map};
-ghost use Rattle.std.specs.Result.{result_ok};
-ghost use Rattle.rws_msgs.specs.OkLayout.{IsOkMsg, OkFits, ok_at, ok_bytes, state_at, texts_at, texts_bytes};
+ghost use Rattle.rws_msgs.specs.OkLayout.{IsOkMsg, OkFits, ok_at, ok_bytes, ok_status, state_at, texts_at, texts_bytes};
 ghost use Rattle.rws_msgs.specs.OkParts.{ok_of};
 ghost use Rattle.rws_msgs.specs.Reading.{Gives};
 ghost use Rattle.rws_wire.specs.Reading.{Reads};
@@ -92,8 +90,9 @@ fn parts_of(payload: &[u8], track: bool) -> Result<Parts<'_>, MsgFault>
 
 /// The status of an OK, read without memory. None where the payload isn't one. `track` says that both sides
 /// have CLIENT_SESSION_TRACK.
+#[tactic(auto, unfolding(crate::specs::OkLayout::ok_status))]
 pub fn ok_status(payload: &[u8], track: bool) -> Option<u16>
-    ensures { result ≡ option_map (λ ok. ok.status) (result_ok (ok_at track payload.now)) }
+    ensures { result ≡ ok_status track payload.now }
 {
     match parts_of(payload, track) {
         Ok(parts) => Some(parts.status),
