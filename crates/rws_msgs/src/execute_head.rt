@@ -55,7 +55,7 @@ fn types_of(parameters: u16, bytes: &[u8]) -> Result<(Option<&[u8]>, &[u8]), Msg
         [] => Err(MsgFault::Short),
         [0, rest @ ..] => Ok((None, rest)),
         [1, rest @ ..] => {
-            let (types, values) = bytes_at(2 * parameters as usize, rest)?;
+            let (types, values) = bytes_at(2 * usize::from(parameters), rest)?;
             Ok((Some(types), values))
         }
         [given, ..] => Err(MsgFault::BadTag { byte: *given }),
@@ -82,7 +82,7 @@ fn values_of(parameters: u16, bytes: &[u8]) -> Result<Values<'_>, MsgFault>
             values: &[],
         });
     }
-    let (bitmap, rest) = bytes_at((parameters as usize + 7) / 8, bytes)?;
+    let (bitmap, rest) = bytes_at(usize::from(parameters).div_ceil(8), bytes)?;
     let (types, values) = types_of(parameters, rest)?;
     Ok(Values {
         bitmap,
