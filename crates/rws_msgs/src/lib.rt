@@ -2,6 +2,7 @@
 #![tactic(auto)]
 
 mod eof_msg;
+pub mod capability;
 mod err_msg;
 mod execute_head;
 mod fault;
@@ -11,6 +12,7 @@ mod prepare_ok;
 mod reading;
 mod response;
 mod switch;
+pub mod status;
 mod writing;
 
 pub use eof_msg::EofMsg;

@@ -7,6 +7,7 @@ ghost use Rattle.rws_wire.specs.Reading.{Reads};
 
 use crate::MsgFault;
 use crate::reading::{end, fixed_at, lenenc_at, split_text, u16_at};
+use crate::status::SESSION_STATE_CHANGED;
 use crate::writing::{or_cut, put_text, put_u16};
 use rws_wire::{Text, put_lenenc};
 use std::alloc::{AllocError, Global};
@@ -28,8 +29,6 @@ pub struct OkMsg {
     /// The changes of the session's state, as they stand in the message. Empty where there are none.
     pub state: Text,
 }
-
-const STATE_CHANGED: u16 = 0x4000;
 
 #[derive(Clone, Copy)]
 struct Parts<'a> {
@@ -77,7 +76,7 @@ fn parts_of(payload: &[u8], track: bool) -> Result<Parts<'_>, MsgFault>
     let (insert_id, rest) = lenenc_at(rest)?;
     let (status, rest) = u16_at(rest)?;
     let (warnings, rest) = u16_at(rest)?;
-    let (info, state) = texts_of(track && status & STATE_CHANGED != 0, rest)?;
+    let (info, state) = texts_of(track && status & SESSION_STATE_CHANGED != 0, rest)?;
     Ok(Parts {
         affected,
         insert_id,
@@ -147,7 +146,12 @@ impl OkMsg {
         put_lenenc(insert_id, out)?;
         put_u16(status, out)?;
         put_u16(warnings, out)?;
-        put_texts(track && status & STATE_CHANGED != 0, info, state, out)
+        put_texts(
+            track && status & SESSION_STATE_CHANGED != 0,
+            info,
+            state,
+            out,
+        )
     }
 }
 

@@ -7,6 +7,9 @@ ghost use Rattle.rws_msgs.specs.ResponseLayout.{IsAnswer, IsName, IsResponse, Re
 ghost use Rattle.rws_msgs.specs.ResponseParts.{name_of, response_of};
 
 use crate::MsgFault;
+use crate::capability::{
+    CONNECT_ATTRS, CONNECT_WITH_DB, PLUGIN_AUTH, PLUGIN_AUTH_LENENC_CLIENT_DATA,
+};
 use crate::reading::{bytes_at, end, last_text_at, split_text, u8_at, u32_at, zero_text_at};
 use crate::writing::{or_cut, put_text, put_u32};
 use rws_wire::Text;
@@ -27,14 +30,6 @@ pub struct Response {
     /// There exactly where the flags have CLIENT_PLUGIN_AUTH.
     pub plugin: Option<Text>,
 }
-
-const CONNECT_WITH_DB: u32 = 0x8;
-
-const PLUGIN_AUTH: u32 = 0x8_0000;
-
-const CONNECT_ATTRS: u32 = 0x10_0000;
-
-const PLUGIN_AUTH_LENENC: u32 = 0x20_0000;
 
 const MAX_PACKET_LEN: u32 = 0x100_0000;
 
@@ -126,7 +121,7 @@ fn parts_of(payload: &[u8]) -> Result<Parts<'_>, MsgFault>
     let (charset, rest) = u8_at(rest)?;
     let (_, rest) = bytes_at(23, rest)?;
     let (user, rest) = zero_text_at(rest)?;
-    let (answer, rest) = answer_of(has(flags, PLUGIN_AUTH_LENENC), rest)?;
+    let (answer, rest) = answer_of(has(flags, PLUGIN_AUTH_LENENC_CLIENT_DATA), rest)?;
     let names = names_of(flags, rest)?;
     Ok(Parts {
         flags,
@@ -189,7 +184,7 @@ impl Response {
     {
         let (flags, answer) = (self.flags, self.answer.as_slice());
         self.put_front(out)?;
-        put_answer(has(flags, PLUGIN_AUTH_LENENC), answer, out)?;
+        put_answer(has(flags, PLUGIN_AUTH_LENENC_CLIENT_DATA), answer, out)?;
         self.put_names(out)
     }
 

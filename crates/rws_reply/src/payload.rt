@@ -3,17 +3,15 @@
 ghost use Rattle.std.specs.Prelude.{◌≡◌, is_ok};
 ghost use Rattle.rws_reply.specs.Payloads.{has_more_results, eof_status, column_count, is_definition, is_row, prepared_counts};
 
+use rws_msgs::status::MORE_RESULTS_EXISTS;
 use rws_msgs::{EofMsg, MsgFault, PrepareOk, split_text};
 use rws_wire::split_lenenc;
-
-/// Status bit `SERVER_MORE_RESULTS_EXIST`.
-const MORE_RESULTS: u16 = 0x0008;
 
 /// Whether another result follows.
 pub fn has_more(status: u16) -> bool
     ensures { result ≡ has_more_results status }
 {
-    status & MORE_RESULTS != 0
+    status & MORE_RESULTS_EXISTS != 0
 }
 
 /// The status of an EOF.
