@@ -1,4 +1,4 @@
--- HandshakeResponse41: which fields stand there is said by the client's capabilities.
+-- Handshake Response Packet of a client with CLIENT_PROTOCOL_41: which fields stand there is said by the client's capabilities.
 use Rattle.std.specs.Prelude.{ℕ, ◌<◌, ◌^◌, ◌%◌, Bool, true, false, not, ◌&&◌, ◌==◌, bit_and, List, [], ◌∷◌, ◌++◌, length, replicate, Option, Some, None, Result, Ok}
 use Rattle.rws_wire.specs.Numbers.{bytes_of}
 use Rattle.rws_msgs.specs.declared.fault.MsgFault.{MsgFault}

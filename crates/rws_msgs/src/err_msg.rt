@@ -13,7 +13,7 @@ use std::alloc::{AllocError, Global};
 
 /// ERR_Packet: a command was refused or broke off. Read and written with `#` and a state, as between sides that
 /// have CLIENT_PROTOCOL_41.
-#[derive(Debug, Drop)]
+#[derive(Debug, PartialEq, Eq, Drop)]
 pub struct ErrMsg {
     /// MariaDB's error number.
     pub code: u16,

@@ -13,7 +13,7 @@ use rws_wire::Text;
 use std::alloc::{AllocError, Global};
 
 /// COM_STMT_EXECUTE, split where a proxy looks at it.
-#[derive(Debug, Drop)]
+#[derive(Debug, PartialEq, Eq, Drop)]
 pub struct ExecuteHead {
     /// The statement's id on its link.
     pub id: u32,
@@ -131,7 +131,7 @@ impl ExecuteHead {
         })
     }
 
-    /// Appends the payload. Without a bitmap neither types nor values are written. `Err` leaves `out` as it was.
+    /// Appends the payload. Without a bitmap neither types nor values are written; such ones aren't read back. `Err` leaves `out` as it was.
     #[tactic(auto, using(crate::proofs::ExecuteLemmas::execute_again))]
     pub fn encode(&self, out: &mut Vec<u8>) -> Result<(), AllocError>
         ensures ok { OnOk result (out.new.items ≡ out.old.items ++ execute_bytes self.now) }

@@ -14,8 +14,8 @@ use crate::writing::{or_cut, put_u32};
 use rws_wire::Text;
 use std::alloc::{AllocError, Global};
 
-/// HandshakeV10: the server's version and what it can, with the scramble that a login answers.
-#[derive(Debug, Drop)]
+/// Initial Handshake Packet: the server's version and what it can, with the scramble that a login answers.
+#[derive(Debug, PartialEq, Eq, Drop)]
 pub struct Greeting {
     /// The server's version, as a text.
     pub version: Text,
@@ -143,7 +143,8 @@ impl Greeting {
         })
     }
 
-    /// Appends the payload, with a data length of 21 and a filler of zeros. `Err` leaves `out` as it was.
+    /// Appends the payload, with a data length of 21 and a filler of zeros. What is written isn't read back where a
+    /// zero byte stands in the version or the plugin. `Err` leaves `out` as it was.
     #[tactic(auto, using(crate::proofs::GreetingLemmas::greeting_again))]
     pub fn encode(&self, out: &mut Vec<u8>) -> Result<(), AllocError>
         ensures ok { OnOk result (out.new.items ≡ out.old.items ++ greeting_bytes self.now) }

@@ -1,4 +1,5 @@
-//! Messages of the MariaDB client/server protocol, read from payloads and written.
+//! Messages of the MariaDB client/server protocol, read from payloads and written. Packets, fields, status bits and
+//! capabilities have the names of MariaDB's protocol documentation.
 #![tactic(auto)]
 
 mod eof_msg;

@@ -13,14 +13,14 @@ use rws_wire::{Text, put_lenenc};
 use std::alloc::{AllocError, Global};
 
 /// OK_Packet: a command was carried out.
-#[derive(Debug, Drop)]
+#[derive(Debug, PartialEq, Eq, Drop)]
 pub struct OkMsg {
     /// How many rows were changed.
     pub affected: u64,
-    /// The first value that AUTO_INCREMENT made, or 0.
+    /// The last insert id: the first value that AUTO_INCREMENT made, one that was given explicitly, or that of
+    /// LAST_INSERT_ID(expr). 0 where there is none.
     pub insert_id: u64,
-    /// The server's status bits: 0x0001 in a transaction, 0x0002 autocommit, 0x0008 more results follow, 0x4000
-    /// the session's state changed.
+    /// The server's status bits, as `status` names them.
     pub status: u16,
     /// How many warnings the command left.
     pub warnings: u16,
@@ -117,9 +117,9 @@ impl OkMsg {
         })
     }
 
-    /// Appends the payload. A state is to be written where `track` is set and the status has 0x4000: then the info and
-    /// the state are written, and neither where both are empty. Without one the info alone is written, and nothing
-    /// where it is empty. `Err` leaves `out` as it was.
+    /// Appends the payload. A state is to be written where `track` is set and the status has SESSION_STATE_CHANGED: then
+    /// the info and the state are written, and neither where both are empty. Without one the info alone is written, and
+    /// nothing where it is empty: a state that the message holds then isn't read back. `Err` leaves `out` as it was.
     #[tactic(auto, using(crate::proofs::OkLemmas::ok_again))]
     pub fn encode(&self, track: bool, out: &mut Vec<u8>) -> Result<(), AllocError>
         ensures ok { OnOk result (out.new.items ≡ out.old.items ++ ok_bytes track self.now) }

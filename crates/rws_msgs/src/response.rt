@@ -15,8 +15,8 @@ use crate::writing::{or_cut, put_text, put_u32};
 use rws_wire::Text;
 use std::alloc::{AllocError, Global};
 
-/// HandshakeResponse41: the login that a client asks for.
-#[derive(Debug, Drop)]
+/// Handshake Response Packet: the login that a client asks for.
+#[derive(Debug, PartialEq, Eq, Drop)]
 pub struct Response {
     /// The client's capabilities.
     pub flags: u32,
@@ -162,7 +162,9 @@ impl Response {
     }
 
     /// Appends the payload, with a greatest packet of 16 MiB and an empty list of attributes where the flags have
-    /// them. `Err` leaves `out` as it was.
+    /// them. What is written isn't read back where a zero byte stands in the user or a name, where the names don't go
+    /// with the flags, or where an answer above 255 bytes stands behind a length of one byte. `Err` leaves `out` as it
+    /// was.
     #[tactic(auto, using(crate::proofs::ResponseLemmas::response_again))]
     pub fn encode(&self, out: &mut Vec<u8>) -> Result<(), AllocError>
         ensures ok { OnOk result (out.new.items ≡ out.old.items ++ response_bytes self.now) }
