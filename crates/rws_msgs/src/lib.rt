@@ -2,8 +2,8 @@
 //! capabilities have the names of MariaDB's protocol documentation.
 #![tactic(auto)]
 
-mod eof_msg;
 pub mod capability;
+mod eof_msg;
 mod err_msg;
 mod execute_head;
 mod fault;
@@ -12,8 +12,8 @@ mod ok_msg;
 mod prepare_ok;
 mod reading;
 mod response;
-mod switch;
 pub mod status;
+mod switch;
 mod writing;
 
 pub use eof_msg::EofMsg;
