@@ -1,7 +1,7 @@
 -- A field that was written is read again, whatever follows it.
-use Rattle.std.proofs.Common.{◌≡◌, ◌==◌, ◌≢◌, ℕ, suc, ◌+◌, ◌*◌, ◌^◌, ◌<◌, ◌≤◌, Bool, true, false, cond, nat_lt, ltb, List, [], ◌∷◌, ◌++◌, length, take, drop, Result, Ok, Err, refl, sym, ap, ◌∙◌, append_assoc, arith, inl, inr}
-use Rattle.std.proofs.lemmas.Bool.{cases_lt, lt-ltb, le-ltb, eq-eqb, ne_eqb}
-use Rattle.std.proofs.lemmas.List.{append-nil, length-take-le, take_at, drop_at, length-append, length-drop}
+use Rattle.std.proofs.Common.{◌≡◌, ◌==◌, ◌≢◌, ℕ, suc, ◌+◌, ◌*◌, ◌^◌, ◌<◌, ◌≤◌, Bool, true, false, cond, nat_lt, ltb, List, [], ◌∷◌, ◌++◌, length, take, drop, Result, Ok, Err, refl, sym, ap, ◌∙◌, append_assoc, arith}
+use Rattle.std.proofs.lemmas.Bool.{le-ltb, eq-eqb, ne_eqb}
+use Rattle.std.proofs.lemmas.List.{append-nil, take_at, drop_at, length-append, length-drop}
 use Rattle.rws_wire.specs.Numbers.{bytes_of, number_of}
 use Rattle.rws_wire.specs.Lenenc.{Lenenc, Integer, Cut, NoInteger, sized, lenenc, lenenc_bytes}
 use Rattle.rws_wire.proofs.NumberLemmas.{length-bytes_of, number_of-bytes_of}
@@ -16,19 +16,11 @@ pub bind_ok : {A B : Type 0} (r : Result A MsgFault) (f : A → Result B MsgFaul
 bind_ok (Ok x) f y e = (x, refl, e)
 bind_ok (Err fault) f y e = absurd cc
 
-abbrev failed : Result (List ℕ × List ℕ) MsgFault
-failed = Err Short
-
 abbrev done : {A : Type 0} → A → Result A MsgFault
 done x = Ok x
 
 pub ok_is : {A : Type 0} (x y : A) → done x ≡ done y → x ≡ y
 ok_is x y e = cc
-
-pub ended_is : {A : Type 0} (x y : A) (rest : List ℕ) → ended x rest ≡ Ok y → x ≡ y
-unfolding ended
-ended_is x y [] e = ok_is x y e
-ended_is x y (byte ∷ rest) e = absurd cc
 
 pub bytes_again : (text rest : List ℕ) (size : ℕ) → length text ≡ size → bytes_at size (text ++ rest) ≡ Ok (text, rest)
 unfolding bytes_at
@@ -49,16 +41,6 @@ byte_again n rest =
     let long : ltb (length (n ∷ rest)) 1 ≡ false = le-ltb _ _ (omega arith) in
     let one : n + 256 * 0 ≡ n = omega arith in
     rw long (ap (λ (k : ℕ). Ok (k, rest)) one)
-
-pub bytes_size : (size : ℕ) (bytes text rest : List ℕ) → bytes_at size bytes ≡ Ok (text, rest) → length text ≡ size
-unfolding bytes_at
-bytes_size size bytes text rest e =
-    elim (cases_lt (length bytes) size) [
-      | inl lt ↦ absurd (let short : failed ≡ Ok (text, rest) = rw (lt-ltb (length bytes) size lt) at e in cc)
-      | inr le ↦
-          let whole = ok_is (take size bytes, drop size bytes) (text, rest) (rw (le-ltb (length bytes) size le) at e) in
-          ap (λ (p : List ℕ × List ℕ). length p.0) (sym whole) ∙ length-take-le size bytes le
-    ]
 
 pub last_number_again : (size n : ℕ) → n < 256 ^ size → number_at size (bytes_of size n) ≡ Ok (n, [])
 last_number_again size n lt = ap (number_at size) (sym (append-nil (bytes_of size n))) ∙ number_again size n [] lt

@@ -1,5 +1,6 @@
 pub mod WritingLemmas
 pub mod FieldLemmas
+pub mod MemoryLemmas
 pub mod OkLemmas
 pub mod ErrLemmas
 pub mod EofLemmas

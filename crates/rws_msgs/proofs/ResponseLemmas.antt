@@ -5,18 +5,17 @@ use Rattle.rws_wire.specs.Lenenc.{lenenc}
 use Rattle.rws_wire.specs.Numbers.{bytes_of}
 use Rattle.rws_msgs.specs.declared.response.Response.{Response}
 use Rattle.rws_msgs.specs.Fields.{bytes_at, ended, last_text_at, lenenc_at, text_at}
-use Rattle.rws_msgs.specs.ResponseLayout.{AnswerFits, IsResponse, NameFits, answer_at, answer_bytes, attributes_at, attributes_bytes, front_bytes, name_at, name_bytes, names_at, names_bytes, response_at, response_bytes, with_attributes, with_database, with_lenenc, with_plugin}
-use Rattle.rws_msgs.specs.ResponseParts.{ResponseFits}
+use Rattle.rws_msgs.specs.ResponseLayout.{IsAnswer, IsName, IsResponse, ResponseFits, answer_at, answer_bytes, attributes_at, attributes_bytes, front_bytes, name_at, name_bytes, names_at, names_bytes, response_at, response_bytes, with_attributes, with_database, with_lenenc, with_plugin}
 use Rattle.rws_msgs.proofs.FieldLemmas.{bytes_again, byte_again, number_again, text_again, zero_text_again}
 
-answer_again : (lenenc : Bool) (answer rest : List ℕ) → length answer < 2 ^ 64 → AnswerFits lenenc answer → answer_at lenenc (answer_bytes lenenc answer ++ rest) ≡ Ok (answer, rest)
+answer_again : (lenenc : Bool) (answer rest : List ℕ) → length answer < 2 ^ 64 → IsAnswer lenenc answer → answer_at lenenc (answer_bytes lenenc answer ++ rest) ≡ Ok (answer, rest)
 unfolding answer_at answer_bytes
 answer_again true answer rest lt fits = text_again answer rest lt
 answer_again false answer rest lt fits =
     let size : length answer % 256 ≡ length answer = omega (arith, fits) in
     rw (size, byte_again (length answer) (answer ++ rest), bytes_again answer rest (length answer) refl) refl
 
-name_again : (given last : Bool) (name : Option (List ℕ)) (rest : List ℕ) → NameFits given name → name_at given last (name_bytes name ++ rest) ≡ Ok (name, rest)
+name_again : (given last : Bool) (name : Option (List ℕ)) (rest : List ℕ) → IsName given name → name_at given last (name_bytes name ++ rest) ≡ Ok (name, rest)
 unfolding name_at name_bytes last_text_at
 name_again false last None rest fits = refl
 name_again false last (Some text) rest fits = absurd fits

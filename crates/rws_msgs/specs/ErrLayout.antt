@@ -1,5 +1,7 @@
 -- ERR_Packet of a client with CLIENT_PROTOCOL_41: the state stands behind `#`.
-use Rattle.std.specs.Prelude.{◌≡◌, ℕ, ◌<◌, ◌^◌, length, List, ◌∷◌, ◌++◌, Result, Ok}
+use Rattle.std.specs.Prelude.{◌≡◌, ℕ, ◌<◌, ◌^◌, length, List, ◌∷◌, ◌++◌, Option, Result, Ok}
+use Rattle.std.specs.Option.{option_map}
+use Rattle.std.specs.Result.{result_ok}
 use Rattle.rws_wire.specs.Numbers.{bytes_of}
 use Rattle.rws_msgs.specs.declared.fault.MsgFault.{MsgFault}
 use Rattle.rws_msgs.specs.declared.err_msg.ErrMsg.{ErrMsg}
@@ -13,6 +15,10 @@ err_at payload = do
   marked ← fixed_at 0x23 code.1
   state ← bytes_at 5 marked
   Ok (record { code = code.0; state = state.0; text = state.1 })
+
+-- the code of an error, where the payload is one
+unfoldable pub err_code : List ℕ → Option ℕ
+err_code payload = option_map (λ err. err.code) (result_ok (err_at payload))
 
 unfoldable pub err_bytes : ErrMsg → List ℕ
 err_bytes err = 0xFF ∷ (bytes_of 2 err.code ++ 0x23 ∷ (err.state ++ err.text))

@@ -1,5 +1,5 @@
 -- COM_STMT_EXECUTE. For a statement without parameters the bytes behind the iteration count are read over.
-use Rattle.std.specs.Prelude.{ℕ, ◌+◌, ◌*◌, ◌/◌, List, [], ◌∷◌, ◌++◌, ◌==◌, if◌then◌else◌, Option, Some, None, Result, Ok, Err}
+use Rattle.std.specs.Prelude.{◌≡◌, ℕ, ◌+◌, ◌*◌, ◌/◌, ◌<◌, ◌^◌, length, List, [], ◌∷◌, ◌++◌, ◌==◌, if◌then◌else◌, Option, Some, None, Result, Ok, Err}
 use Rattle.rws_wire.specs.Numbers.{bytes_of}
 use Rattle.rws_msgs.specs.declared.fault.MsgFault.{MsgFault}
 use Rattle.rws_msgs.specs.declared.fault.MsgFault.TheVariants.{Short, BadTag}
@@ -53,3 +53,24 @@ values_bytes (byte ∷ bitmap) types values = (byte ∷ bitmap) ++ (types_bytes 
 unfoldable pub execute_bytes : ExecuteHead → List ℕ
 execute_bytes head =
     0x17 ∷ (bytes_of 4 head.id ++ head.flags ∷ 0x01 ∷ 0x00 ∷ 0x00 ∷ 0x00 ∷ values_bytes head.bitmap head.types head.values)
+
+-- the size of the types for so many parameters, where they are there
+abbrev pub HaveSize : ℕ → Option (List ℕ) → Type 0
+HaveSize parameters None = Unit {0}
+HaveSize parameters (Some types) = length types ≡ 2 * parameters
+
+-- what values_at reads
+pub record AreValues (parameters : ℕ) (bitmap : List ℕ) (types : Option (List ℕ)) (values : List ℕ) : Type 0 where
+  pub bitmap_size : length bitmap ≡ (parameters + 7) / 8
+  pub types_size : HaveSize parameters types
+  pub no_types : parameters ≡ 0 → types ≡ None
+  pub no_values : parameters ≡ 0 → values ≡ []
+
+-- what can be decoded
+abbrev pub IsExecuteHead : ℕ → ExecuteHead → Type 0
+IsExecuteHead parameters head = AreValues parameters head.bitmap head.types head.values
+
+-- the ranges of the fields
+pub record ExecuteFits (head : ExecuteHead) : Type 0 where
+  pub id : head.id < 2 ^ 32
+  pub flags : head.flags < 2 ^ 8

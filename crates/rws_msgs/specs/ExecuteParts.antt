@@ -1,5 +1,4 @@
 -- The execute whose parts were read.
-use Rattle.std.specs.Prelude.{◌<◌, ◌^◌}
 use Rattle.std.specs.Option.{option_map}
 use Rattle.rws_msgs.specs.declared.execute_head.ExecuteHead.{ExecuteHead}
 use Rattle.rws_msgs.specs.declared.execute_head.Parts.{Parts}
@@ -12,8 +11,3 @@ execute_of parts = record {
   types = option_map (λ types. types.now) parts.types;
   values = parts.values.now;
 }
-
--- the ranges of the fields
-pub record ExecuteFits (head : ExecuteHead) : Type 0 where
-  pub id : head.id < 2 ^ 32
-  pub flags : head.flags < 2 ^ 8

@@ -1,4 +1,4 @@
--- HandshakeV10 of a server with CLIENT_PROTOCOL_41 and CLIENT_PLUGIN_AUTH. The scramble and the capabilities stand in two
+-- Initial Handshake Packet of a server with CLIENT_PROTOCOL_41 and CLIENT_PLUGIN_AUTH. The scramble and the capabilities stand in two
 -- pieces each, which are joined.
 use Rattle.std.specs.Prelude.{◌≡◌, ℕ, ◌<◌, ◌^◌, List, [], ◌∷◌, ◌++◌, length, take, drop, replicate, Result, Ok}
 use Rattle.rws_wire.specs.Numbers.{bytes_of, number_of}

@@ -1,6 +1,8 @@
 -- OK_Packet of a client with CLIENT_PROTOCOL_41. Under CLIENT_SESSION_TRACK the info may be followed by the
 -- session's changes; without it the payload may end in an info too, in the form that MariaDB writes.
-use Rattle.std.specs.Prelude.{ℕ, ◌<◌, ◌^◌, length, Bool, true, false, ◌&&◌, not, List, [], ◌∷◌, ◌++◌, ◌==◌, bit_and, Result, Ok}
+use Rattle.std.specs.Prelude.{◌≡◌, ℕ, ◌<◌, ◌^◌, length, Bool, true, false, ◌&&◌, not, List, [], ◌∷◌, ◌++◌, ◌==◌, bit_and, Option, Result, Ok}
+use Rattle.std.specs.Option.{option_map}
+use Rattle.std.specs.Result.{result_ok}
 use Rattle.rws_wire.specs.Lenenc.{lenenc_bytes}
 use Rattle.rws_wire.specs.Numbers.{bytes_of}
 use Rattle.rws_msgs.specs.declared.fault.MsgFault.{MsgFault}
@@ -41,6 +43,10 @@ ok_at track payload = do
     state = texts.1;
   })
 
+-- the status of an OK, where the payload is one
+unfoldable pub ok_status : Bool → List ℕ → Option ℕ
+ok_status track payload = option_map (λ ok. ok.status) (result_ok (ok_at track payload))
+
 -- where a state is to stand the info and the state, elsewhere the info alone; nothing where these are empty
 unfoldable pub texts_bytes : Bool → List ℕ → List ℕ → List ℕ
 texts_bytes false [] state = []
@@ -52,6 +58,10 @@ unfoldable pub ok_bytes : Bool → OkMsg → List ℕ
 ok_bytes track ok =
     0x00 ∷ (lenenc_bytes ok.affected ++ (lenenc_bytes ok.insert_id ++ (bytes_of 2 ok.status ++ (bytes_of 2 ok.warnings
     ++ texts_bytes (track && states ok.status) ok.info ok.state))))
+
+-- what can be decoded: the state is empty where none is to stand
+abbrev pub IsOkMsg : Bool → OkMsg → Type 0
+IsOkMsg track ok = (track && states ok.status) ≡ false → ok.state ≡ []
 
 -- the ranges of the fields
 pub record OkFits (ok : OkMsg) : Type 0 where

@@ -1,4 +1,4 @@
--- COM_STMT_PREPARE_OK: twelve bytes.
+-- The first packet of the COM_STMT_PREPARE response: twelve bytes.
 use Rattle.std.specs.Prelude.{ℕ, ◌<◌, ◌^◌, List, ◌∷◌, ◌++◌, Result}
 use Rattle.rws_wire.specs.Numbers.{bytes_of}
 use Rattle.rws_msgs.specs.declared.fault.MsgFault.{MsgFault}

@@ -1,5 +1,5 @@
--- HandshakeResponse41: which fields stand there is said by the client's capabilities.
-use Rattle.std.specs.Prelude.{ℕ, ◌<◌, ◌%◌, Bool, true, false, not, ◌&&◌, ◌==◌, bit_and, List, [], ◌∷◌, ◌++◌, length, replicate, Option, Some, None, Result, Ok}
+-- Handshake Response Packet of a client with CLIENT_PROTOCOL_41: which fields stand there is said by the client's capabilities.
+use Rattle.std.specs.Prelude.{ℕ, ◌<◌, ◌^◌, ◌%◌, Bool, true, false, not, ◌&&◌, ◌==◌, bit_and, List, [], ◌∷◌, ◌++◌, length, replicate, Option, Some, None, Result, Ok}
 use Rattle.rws_wire.specs.Numbers.{bytes_of}
 use Rattle.rws_msgs.specs.declared.fault.MsgFault.{MsgFault}
 use Rattle.rws_msgs.specs.declared.response.Response.{Response}
@@ -98,19 +98,24 @@ response_bytes response =
     front_bytes response ++ (answer_bytes (with_lenenc response.flags) response.answer ++ names_bytes response)
 
 -- a name that is there where it is to be
-abbrev pub NameFits : Bool → Option (List ℕ) → Type 0
-NameFits true (Some text) = HasNoZero text
-NameFits true None = ⊥
-NameFits false (Some text) = ⊥
-NameFits false None = Unit {0}
+abbrev pub IsName : Bool → Option (List ℕ) → Type 0
+IsName true (Some text) = HasNoZero text
+IsName true None = ⊥
+IsName false (Some text) = ⊥
+IsName false None = Unit {0}
 
-abbrev pub AnswerFits : Bool → List ℕ → Type 0
-AnswerFits true answer = Unit {0}
-AnswerFits false answer = length answer < 256
+abbrev pub IsAnswer : Bool → List ℕ → Type 0
+IsAnswer true answer = Unit {0}
+IsAnswer false answer = length answer < 256
 
 -- what can be decoded
 pub record IsResponse (response : Response) : Type 0 where
   pub user : HasNoZero response.user
-  pub answer : AnswerFits (with_lenenc response.flags) response.answer
-  pub database : NameFits (with_database response.flags) response.database
-  pub plugin : NameFits (with_plugin response.flags) response.plugin
+  pub answer : IsAnswer (with_lenenc response.flags) response.answer
+  pub database : IsName (with_database response.flags) response.database
+  pub plugin : IsName (with_plugin response.flags) response.plugin
+
+-- the ranges of the fields
+pub record ResponseFits (response : Response) : Type 0 where
+  pub flags : response.flags < 2 ^ 32
+  pub answer : length response.answer < 2 ^ 64

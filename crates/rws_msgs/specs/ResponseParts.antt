@@ -1,5 +1,5 @@
 -- The response whose parts were read.
-use Rattle.std.specs.Prelude.{ℕ, ◌<◌, ◌^◌, length, List, Option}
+use Rattle.std.specs.Prelude.{ℕ, List, Option}
 use Rattle.std.specs.Borrow.{Bor}
 use Rattle.std.specs.Option.{option_map}
 use Rattle.rws_msgs.specs.declared.response.Response.{Response}
@@ -17,8 +17,3 @@ response_of parts = record {
   database = name_of parts.database;
   plugin = name_of parts.plugin;
 }
-
--- the ranges of the fields
-pub record ResponseFits (response : Response) : Type 0 where
-  pub flags : response.flags < 2 ^ 32
-  pub answer : length response.answer < 2 ^ 64

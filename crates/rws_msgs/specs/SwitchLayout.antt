@@ -1,4 +1,4 @@
--- AuthSwitchRequest: another authentication plugin is asked for.
+-- Authentication Switch Request: another plugin is asked for, one that takes a scramble of 20 bytes.
 use Rattle.std.specs.Prelude.{ℕ, List, [], ◌∷◌, ◌++◌, Result}
 use Rattle.rws_msgs.specs.declared.fault.MsgFault.{MsgFault}
 use Rattle.rws_msgs.specs.declared.switch.Switch.{Switch}

@@ -1,11 +1,10 @@
 // The end of a list of definitions or rows.
-ghost use Rattle.std.specs.Prelude.{◌≡◌, ◌++◌, Ok, OnOk, OnErr, length, take};
+ghost use Rattle.std.specs.Prelude.{◌≡◌, ◌++◌, Ok, OnOk, OnErr};
 ghost use Rattle.rws_msgs.specs.EofLayout.{EofFits, eof_at, eof_bytes};
 ghost use Rattle.rws_wire.specs.Reading.{Reads};
 
 use crate::MsgFault;
 use crate::reading::{end, fixed_at, u16_at};
-use crate::writing::{or_cut, put_u16};
 use std::alloc::AllocError;
 
 /// EOF_Packet: column definitions or rows have ended.
@@ -38,19 +37,18 @@ impl EofMsg {
         // It is decoded again.
         ensures again { eof_at (eof_bytes self.now) ≡ Ok self.now }
     {
-        let before = out.len();
-        or_cut(self.put(out), before, out)
+        self.put(out)
     }
 
     #[tactic(auto, unfolding(crate::specs::EofLayout::eof_bytes))]
     fn put(&self, out: &mut Vec<u8>) -> Result<(), AllocError>
         ensures ok { OnOk result (out.new.items ≡ out.old.items ++ eof_bytes self.now) }
-        ensures err { OnErr result (take (length out.old.items) out.new.items ≡ out.old.items) }
+        ensures err { OnErr result (out.new.items ≡ out.old.items) }
         ensures fits { EofFits self.now }
     {
         let (warnings, status) = (self.warnings, self.status);
-        out.push(0xFE)?;
-        put_u16(warnings, out)?;
-        put_u16(status, out)
+        let [a, b] = warnings.to_le_bytes();
+        let [c, d] = status.to_le_bytes();
+        out.extend_from_slice(&[0xFE, a, b, c, d])
     }
 }

@@ -1,8 +1,6 @@
 // The error of a reply.
 ghost use Rattle.std.specs.Prelude.{◌≡◌, ◌++◌, Ok, length, take, OnOk, OnErr};
-ghost use Rattle.std.specs.Option.{option_map};
-ghost use Rattle.std.specs.Result.{result_ok};
-ghost use Rattle.rws_msgs.specs.ErrLayout.{ErrFits, err_at, err_bytes};
+ghost use Rattle.rws_msgs.specs.ErrLayout.{ErrFits, err_at, err_bytes, err_code};
 ghost use Rattle.rws_msgs.specs.ErrParts.{err_of};
 ghost use Rattle.rws_msgs.specs.Reading.{Gives};
 ghost use Rattle.rws_wire.specs.Reading.{Reads};
@@ -15,7 +13,7 @@ use std::alloc::{AllocError, Global};
 
 /// ERR_Packet: a command was refused or broke off. Read and written with `#` and a state, as between sides that
 /// have CLIENT_PROTOCOL_41.
-#[derive(Debug, Drop)]
+#[derive(Debug, PartialEq, Eq, Drop)]
 pub struct ErrMsg {
     /// MariaDB's error number.
     pub code: u16,
@@ -43,8 +41,9 @@ fn parts_of(payload: &[u8]) -> Result<Parts<'_>, MsgFault>
 }
 
 /// The code of an error, read without memory. None where the payload isn't one.
+#[tactic(auto, unfolding(crate::specs::ErrLayout::err_code))]
 pub fn err_code(payload: &[u8]) -> Option<u16>
-    ensures { result ≡ option_map (λ err. err.code) (result_ok (err_at payload.now)) }
+    ensures { result ≡ err_code payload.now }
 {
     match parts_of(payload) {
         Ok(parts) => Some(parts.code),
@@ -54,6 +53,7 @@ pub fn err_code(payload: &[u8]) -> Option<u16>
 
 impl ErrMsg {
     /// The error in a payload.
+    #[tactic(auto, using(crate::proofs::MemoryLemmas::err_never))]
     pub fn decode(alloc: Global, payload: &[u8]) -> Result<ErrMsg, MsgFault>
         ensures { Gives result (err_at payload.now) }
     {

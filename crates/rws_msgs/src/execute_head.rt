@@ -1,8 +1,8 @@
 // The call of a prepared statement.
-ghost use Rattle.std.specs.Prelude.{◌≡◌, ◌+◌, ◌++◌, List, ℕ, Ok, OnOk, OnErr, length, take};
+ghost use Rattle.std.specs.Prelude.{◌≡◌, ◌++◌, ℕ, Ok, OnOk, OnErr, IfOk, length, take};
 ghost use Rattle.std.specs.Option.{option_map};
-ghost use Rattle.rws_msgs.specs.ExecuteLayout.{execute_at, execute_bytes, once_at, types_at, types_bytes, values_at, values_bytes};
-ghost use Rattle.rws_msgs.specs.ExecuteParts.{ExecuteFits, execute_of};
+ghost use Rattle.rws_msgs.specs.ExecuteLayout.{AreValues, ExecuteFits, HaveSize, IsExecuteHead, execute_at, execute_bytes, once_at, types_at, types_bytes, values_at, values_bytes};
+ghost use Rattle.rws_msgs.specs.ExecuteParts.{execute_of};
 ghost use Rattle.rws_msgs.specs.Reading.{Gives};
 ghost use Rattle.rws_wire.specs.Reading.{Reads};
 
@@ -13,7 +13,7 @@ use rws_wire::Text;
 use std::alloc::{AllocError, Global};
 
 /// COM_STMT_EXECUTE, split where a proxy looks at it.
-#[derive(Debug, Drop)]
+#[derive(Debug, PartialEq, Eq, Drop)]
 pub struct ExecuteHead {
     /// The statement's id on its link.
     pub id: u32,
@@ -48,13 +48,14 @@ fn once_at(bytes: &[u8]) -> Result<&[u8], MsgFault>
 
 #[tactic(auto, unfolding(crate::specs::ExecuteLayout::types_at))]
 fn types_of(parameters: u16, bytes: &[u8]) -> Result<(Option<&[u8]>, &[u8]), MsgFault>
-    ensures { Reads (λ x. (option_map (λ types. types.now) x.0, x.1.now)) result (types_at parameters bytes.now) }
+    ensures reads { Reads (λ x. (option_map (λ types. types.now) x.0, x.1.now)) result (types_at parameters bytes.now) }
+    ensures size { IfOk result (λ x. HaveSize parameters (option_map (λ types. types.now) x.0)) }
 {
     match bytes {
         [] => Err(MsgFault::Short),
         [0, rest @ ..] => Ok((None, rest)),
         [1, rest @ ..] => {
-            let (types, values) = bytes_at(2 * parameters as usize, rest)?;
+            let (types, values) = bytes_at(2 * usize::from(parameters), rest)?;
             Ok((Some(types), values))
         }
         [given, ..] => Err(MsgFault::BadTag { byte: *given }),
@@ -71,7 +72,8 @@ struct Values<'a> {
 
 #[tactic(auto, unfolding(crate::specs::ExecuteLayout::values_at))]
 fn values_of(parameters: u16, bytes: &[u8]) -> Result<Values<'_>, MsgFault>
-    ensures { Reads (λ v. (v.bitmap.now, (option_map (λ types. types.now) v.types, v.values.now))) result (values_at parameters bytes.now) }
+    ensures reads { Reads (λ v. (v.bitmap.now, (option_map (λ types. types.now) v.types, v.values.now))) result (values_at parameters bytes.now) }
+    ensures are { IfOk result (λ v. AreValues parameters v.bitmap.now (option_map (λ types. types.now) v.types) v.values.now) }
 {
     if parameters == 0 {
         return Ok(Values {
@@ -80,7 +82,7 @@ fn values_of(parameters: u16, bytes: &[u8]) -> Result<Values<'_>, MsgFault>
             values: &[],
         });
     }
-    let (bitmap, rest) = bytes_at((parameters as usize + 7) / 8, bytes)?;
+    let (bitmap, rest) = bytes_at(usize::from(parameters).div_ceil(8), bytes)?;
     let (types, values) = types_of(parameters, rest)?;
     Ok(Values {
         bitmap,
@@ -91,7 +93,8 @@ fn values_of(parameters: u16, bytes: &[u8]) -> Result<Values<'_>, MsgFault>
 
 #[tactic(auto, unfolding(crate::specs::ExecuteLayout::execute_at))]
 fn parts_of(payload: &[u8], parameters: u16) -> Result<Parts<'_>, MsgFault>
-    ensures { Reads execute_of result (execute_at parameters payload.now) }
+    ensures reads { Reads execute_of result (execute_at parameters payload.now) }
+    ensures is { IfOk result (λ parts. IsExecuteHead parameters (execute_of parts)) }
 {
     let rest = fixed_at(0x17, payload)?;
     let (id, rest) = u32_at(rest)?;
@@ -109,8 +112,10 @@ fn parts_of(payload: &[u8], parameters: u16) -> Result<Parts<'_>, MsgFault>
 
 impl ExecuteHead {
     /// The execute in a payload, of a statement with so many parameters.
+    #[tactic(auto, using(crate::proofs::MemoryLemmas::execute_never))]
     pub fn decode(alloc: Global, payload: &[u8], parameters: u16) -> Result<ExecuteHead, MsgFault>
-        ensures { Gives result (execute_at parameters payload.now) }
+        ensures gives { Gives result (execute_at parameters payload.now) }
+        ensures is { IfOk result (λ head. IsExecuteHead parameters head) }
     {
         let parts = parts_of(payload, parameters)?;
         let types = match parts.types {
@@ -126,14 +131,14 @@ impl ExecuteHead {
         })
     }
 
-    /// Appends the payload. Without a bitmap neither types nor values are written. `Err` leaves `out` as it was.
+    /// Appends the payload. Without a bitmap neither types nor values are written; such ones aren't read back. `Err` leaves `out` as it was.
     #[tactic(auto, using(crate::proofs::ExecuteLemmas::execute_again))]
     pub fn encode(&self, out: &mut Vec<u8>) -> Result<(), AllocError>
         ensures ok { OnOk result (out.new.items ≡ out.old.items ++ execute_bytes self.now) }
         ensures err { OnErr result (out.new.items ≡ out.old.items) }
 
-        // What was decoded is decoded again.
-        ensures again { (parameters : ℕ) (payload : List ℕ) → execute_at parameters payload ≡ Ok self.now
+        // It is decoded again where the bitmap, the types and the values go with the number of parameters.
+        ensures again { (parameters : ℕ) → IsExecuteHead parameters self.now
             → execute_at parameters (execute_bytes self.now) ≡ Ok self.now }
     {
         let before = out.len();

@@ -16,7 +16,7 @@ pub enum MsgFault {
     Trailing,
     /// A length-encoded integer begins with 0xFB or 0xFF.
     BadLenenc,
-    /// There was no memory for the message.
+    /// There was no memory for a message that can be read.
     OutOfMemory,
 }
 

@@ -14,8 +14,8 @@ use crate::writing::{or_cut, put_u32};
 use rws_wire::Text;
 use std::alloc::{AllocError, Global};
 
-/// HandshakeV10: the server's version and what it can, with the scramble that a login answers.
-#[derive(Debug, Drop)]
+/// Initial Handshake Packet: the server's version and what it can, with the scramble that a login answers.
+#[derive(Debug, PartialEq, Eq, Drop)]
 pub struct Greeting {
     /// The server's version, as a text.
     pub version: Text,
@@ -125,6 +125,7 @@ fn parts_of(payload: &[u8]) -> Result<Parts<'_>, MsgFault>
 impl Greeting {
     /// The greeting in a payload. The data length and the filler may hold anything; a plugin that lacks its zero byte
     /// ends with the payload.
+    #[tactic(auto, using(crate::proofs::MemoryLemmas::greeting_never))]
     pub fn decode(alloc: Global, payload: &[u8]) -> Result<Greeting, MsgFault>
         ensures gives { Gives result (greeting_at payload.now) }
         ensures version { IfOk result (λ greeting. HasNoZero greeting.version) }
@@ -142,7 +143,8 @@ impl Greeting {
         })
     }
 
-    /// Appends the payload, with a data length of 21 and a filler of zeros. `Err` leaves `out` as it was.
+    /// Appends the payload, with a data length of 21 and a filler of zeros. What is written isn't read back where a
+    /// zero byte stands in the version or the plugin. `Err` leaves `out` as it was.
     #[tactic(auto, using(crate::proofs::GreetingLemmas::greeting_again))]
     pub fn encode(&self, out: &mut Vec<u8>) -> Result<(), AllocError>
         ensures ok { OnOk result (out.new.items ≡ out.old.items ++ greeting_bytes self.now) }

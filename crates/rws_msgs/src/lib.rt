@@ -1,6 +1,8 @@
-//! Messages of the MariaDB client/server protocol, read from payloads and written.
+//! Messages of the MariaDB client/server protocol, read from payloads and written. Packets, fields, status bits and
+//! capabilities have the names of MariaDB's protocol documentation.
 #![tactic(auto)]
 
+pub mod capability;
 mod eof_msg;
 mod err_msg;
 mod execute_head;
@@ -10,6 +12,7 @@ mod ok_msg;
 mod prepare_ok;
 mod reading;
 mod response;
+pub mod status;
 mod switch;
 mod writing;
 

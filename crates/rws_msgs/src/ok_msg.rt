@@ -1,27 +1,26 @@
 // The OK of a reply.
-ghost use Rattle.std.specs.Prelude.{◌≡◌, ◌++◌, List, ℕ, Ok, length, take, OnOk, OnErr};
-ghost use Rattle.std.specs.Option.{option_map};
-ghost use Rattle.std.specs.Result.{result_ok};
-ghost use Rattle.rws_msgs.specs.OkLayout.{OkFits, ok_at, ok_bytes, state_at, texts_at, texts_bytes};
+ghost use Rattle.std.specs.Prelude.{◌≡◌, ◌++◌, false, [], Ok, length, take, OnOk, OnErr, IfOk};
+ghost use Rattle.rws_msgs.specs.OkLayout.{IsOkMsg, OkFits, ok_at, ok_bytes, ok_status, state_at, texts_at, texts_bytes};
 ghost use Rattle.rws_msgs.specs.OkParts.{ok_of};
 ghost use Rattle.rws_msgs.specs.Reading.{Gives};
 ghost use Rattle.rws_wire.specs.Reading.{Reads};
 
 use crate::MsgFault;
 use crate::reading::{end, fixed_at, lenenc_at, split_text, u16_at};
+use crate::status::SESSION_STATE_CHANGED;
 use crate::writing::{or_cut, put_text, put_u16};
 use rws_wire::{Text, put_lenenc};
 use std::alloc::{AllocError, Global};
 
 /// OK_Packet: a command was carried out.
-#[derive(Debug, Drop)]
+#[derive(Debug, PartialEq, Eq, Drop)]
 pub struct OkMsg {
     /// How many rows were changed.
     pub affected: u64,
-    /// The first value that AUTO_INCREMENT made, or 0.
+    /// The last insert id: the first value that AUTO_INCREMENT made, one that was given explicitly, or that of
+    /// LAST_INSERT_ID(expr). 0 where there is none.
     pub insert_id: u64,
-    /// The server's status bits: 0x0001 in a transaction, 0x0002 autocommit, 0x0008 more results follow, 0x4000
-    /// the session's state changed.
+    /// The server's status bits, as `status` names them.
     pub status: u16,
     /// How many warnings the command left.
     pub warnings: u16,
@@ -30,8 +29,6 @@ pub struct OkMsg {
     /// The changes of the session's state, as they stand in the message. Empty where there are none.
     pub state: Text,
 }
-
-const STATE_CHANGED: u16 = 0x4000;
 
 #[derive(Clone, Copy)]
 struct Parts<'a> {
@@ -45,7 +42,8 @@ struct Parts<'a> {
 
 #[tactic(auto, unfolding(crate::specs::OkLayout::state_at))]
 fn state_of(stated: bool, bytes: &[u8]) -> Result<(&[u8], &[u8]), MsgFault>
-    ensures { Reads (λ x. (x.0.now, x.1.now)) result (state_at stated bytes.now) }
+    ensures reads { Reads (λ x. (x.0.now, x.1.now)) result (state_at stated bytes.now) }
+    ensures none { IfOk result (λ x. stated ≡ false → x.0.now ≡ []) }
 {
     if stated {
         split_text(bytes)
@@ -56,7 +54,8 @@ fn state_of(stated: bool, bytes: &[u8]) -> Result<(&[u8], &[u8]), MsgFault>
 
 #[tactic(auto, unfolding(crate::specs::OkLayout::texts_at, crate::specs::Fields::ended))]
 fn texts_of(stated: bool, bytes: &[u8]) -> Result<(&[u8], &[u8]), MsgFault>
-    ensures { Reads (λ x. (x.0.now, x.1.now)) result (texts_at stated bytes.now) }
+    ensures reads { Reads (λ x. (x.0.now, x.1.now)) result (texts_at stated bytes.now) }
+    ensures none { IfOk result (λ x. stated ≡ false → x.1.now ≡ []) }
 {
     if bytes.is_empty() {
         return Ok((&[], &[]));
@@ -69,14 +68,15 @@ fn texts_of(stated: bool, bytes: &[u8]) -> Result<(&[u8], &[u8]), MsgFault>
 
 #[tactic(auto, unfolding(crate::specs::OkLayout::ok_at))]
 fn parts_of(payload: &[u8], track: bool) -> Result<Parts<'_>, MsgFault>
-    ensures { Reads ok_of result (ok_at track payload.now) }
+    ensures reads { Reads ok_of result (ok_at track payload.now) }
+    ensures is { IfOk result (λ parts. IsOkMsg track (ok_of parts)) }
 {
     let rest = fixed_at(0x00, payload)?;
     let (affected, rest) = lenenc_at(rest)?;
     let (insert_id, rest) = lenenc_at(rest)?;
     let (status, rest) = u16_at(rest)?;
     let (warnings, rest) = u16_at(rest)?;
-    let (info, state) = texts_of(track && status & STATE_CHANGED != 0, rest)?;
+    let (info, state) = texts_of(track && status & SESSION_STATE_CHANGED != 0, rest)?;
     Ok(Parts {
         affected,
         insert_id,
@@ -89,8 +89,9 @@ fn parts_of(payload: &[u8], track: bool) -> Result<Parts<'_>, MsgFault>
 
 /// The status of an OK, read without memory. None where the payload isn't one. `track` says that both sides
 /// have CLIENT_SESSION_TRACK.
+#[tactic(auto, unfolding(crate::specs::OkLayout::ok_status))]
 pub fn ok_status(payload: &[u8], track: bool) -> Option<u16>
-    ensures { result ≡ option_map (λ ok. ok.status) (result_ok (ok_at track payload.now)) }
+    ensures { result ≡ ok_status track payload.now }
 {
     match parts_of(payload, track) {
         Ok(parts) => Some(parts.status),
@@ -100,8 +101,10 @@ pub fn ok_status(payload: &[u8], track: bool) -> Option<u16>
 
 impl OkMsg {
     /// The OK in a payload. `track` says that both sides have CLIENT_SESSION_TRACK.
+    #[tactic(auto, using(crate::proofs::MemoryLemmas::ok_never))]
     pub fn decode(alloc: Global, payload: &[u8], track: bool) -> Result<OkMsg, MsgFault>
-        ensures { Gives result (ok_at track payload.now) }
+        ensures gives { Gives result (ok_at track payload.now) }
+        ensures is { IfOk result (λ ok. IsOkMsg track ok) }
     {
         let parts = parts_of(payload, track)?;
         Ok(OkMsg {
@@ -114,17 +117,16 @@ impl OkMsg {
         })
     }
 
-    /// Appends the payload. A state is to be written where `track` is set and the status has 0x4000: then the info and
-    /// the state are written, and neither where both are empty. Without one the info alone is written, and nothing
-    /// where it is empty. `Err` leaves `out` as it was.
+    /// Appends the payload. A state is to be written where `track` is set and the status has SESSION_STATE_CHANGED: then
+    /// the info and the state are written, and neither where both are empty. Without one the info alone is written, and
+    /// nothing where it is empty: a state that the message holds then isn't read back. `Err` leaves `out` as it was.
     #[tactic(auto, using(crate::proofs::OkLemmas::ok_again))]
     pub fn encode(&self, track: bool, out: &mut Vec<u8>) -> Result<(), AllocError>
         ensures ok { OnOk result (out.new.items ≡ out.old.items ++ ok_bytes track self.now) }
         ensures err { OnErr result (out.new.items ≡ out.old.items) }
 
-        // What was decoded is decoded again.
-        ensures again { (payload : List ℕ) → ok_at track payload ≡ Ok self.now
-            → ok_at track (ok_bytes track self.now) ≡ Ok self.now }
+        // It is decoded again where it has no state that isn't written.
+        ensures again { IsOkMsg track self.now → ok_at track (ok_bytes track self.now) ≡ Ok self.now }
     {
         let before = out.len();
         or_cut(self.put(track, out), before, out)
@@ -144,7 +146,12 @@ impl OkMsg {
         put_lenenc(insert_id, out)?;
         put_u16(status, out)?;
         put_u16(warnings, out)?;
-        put_texts(track && status & STATE_CHANGED != 0, info, state, out)
+        put_texts(
+            track && status & SESSION_STATE_CHANGED != 0,
+            info,
+            state,
+            out,
+        )
     }
 }
 

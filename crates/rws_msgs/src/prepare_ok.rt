@@ -7,7 +7,7 @@ use crate::MsgFault;
 use crate::reading::{end, fixed_at, u16_at, u32_at};
 use std::alloc::AllocError;
 
-/// COM_STMT_PREPARE_OK: a statement was prepared. The definitions of its parameters and columns follow.
+/// COM_STMT_PREPARE response: a statement was prepared. The definitions of its parameters and columns follow.
 #[derive(Clone, Copy, Debug, PartialEq, Eq)]
 pub struct PrepareOk {
     /// The statement's id on its link.

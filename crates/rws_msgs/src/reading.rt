@@ -1,5 +1,5 @@
 // The fields of messages, read without memory: each reader gives a value and the bytes behind it.
-ghost use Rattle.std.specs.Prelude.{◌≡◌, IfOk, OnErr};
+ghost use Rattle.std.specs.Prelude.{◌≡◌, IfOk, OnErr, length};
 ghost use Rattle.rws_msgs.specs.Fields.{HasNoZero, bytes_at, ended, fixed_at, last_text_at, lenenc_at, number_at, text_at, zero_text_at};
 ghost use Rattle.rws_wire.specs.Reading.{Reads};
 
@@ -48,7 +48,8 @@ pub fn array_at<const N: usize>(bytes: &[u8]) -> Result<([u8; N], &[u8]), MsgFau
 
 #[tactic(auto, unfolding(crate::specs::Fields::bytes_at))]
 pub fn bytes_at(size: usize, bytes: &[u8]) -> Result<(&[u8], &[u8]), MsgFault>
-    ensures { Reads (λ x. (x.0.now, x.1.now)) result (bytes_at size bytes.now) }
+    ensures reads { Reads (λ x. (x.0.now, x.1.now)) result (bytes_at size bytes.now) }
+    ensures size { IfOk result (λ x. length x.0.now ≡ size) }
 {
     if bytes.len() < size {
         return Err(MsgFault::Short);

@@ -3,17 +3,20 @@ ghost use Rattle.std.specs.Prelude.{◌≡◌, ◌++◌, Ok, OnOk, OnErr, IfOk, 
 ghost use Rattle.rws_msgs.specs.Fields.{HasNoZero};
 ghost use Rattle.rws_msgs.specs.Reading.{Gives};
 ghost use Rattle.rws_wire.specs.Reading.{Reads};
-ghost use Rattle.rws_msgs.specs.ResponseLayout.{AnswerFits, IsResponse, NameFits, answer_at, answer_bytes, attributes_at, attributes_bytes, front_bytes, has, name_at, name_bytes, names_at, names_bytes, response_at, response_bytes, with_database, with_lenenc, with_plugin};
-ghost use Rattle.rws_msgs.specs.ResponseParts.{ResponseFits, name_of, response_of};
+ghost use Rattle.rws_msgs.specs.ResponseLayout.{IsAnswer, IsName, IsResponse, ResponseFits, answer_at, answer_bytes, attributes_at, attributes_bytes, front_bytes, has, name_at, name_bytes, names_at, names_bytes, response_at, response_bytes, with_database, with_lenenc, with_plugin};
+ghost use Rattle.rws_msgs.specs.ResponseParts.{name_of, response_of};
 
 use crate::MsgFault;
+use crate::capability::{
+    CONNECT_ATTRS, CONNECT_WITH_DB, PLUGIN_AUTH, PLUGIN_AUTH_LENENC_CLIENT_DATA,
+};
 use crate::reading::{bytes_at, end, last_text_at, split_text, u8_at, u32_at, zero_text_at};
 use crate::writing::{or_cut, put_text, put_u32};
 use rws_wire::Text;
 use std::alloc::{AllocError, Global};
 
-/// HandshakeResponse41: the login that a client asks for.
-#[derive(Debug, Drop)]
+/// Handshake Response Packet: the login that a client asks for.
+#[derive(Debug, PartialEq, Eq, Drop)]
 pub struct Response {
     /// The client's capabilities.
     pub flags: u32,
@@ -27,14 +30,6 @@ pub struct Response {
     /// There exactly where the flags have CLIENT_PLUGIN_AUTH.
     pub plugin: Option<Text>,
 }
-
-const CONNECT_WITH_DB: u32 = 0x8;
-
-const PLUGIN_AUTH: u32 = 0x8_0000;
-
-const CONNECT_ATTRS: u32 = 0x10_0000;
-
-const PLUGIN_AUTH_LENENC: u32 = 0x20_0000;
 
 const MAX_PACKET_LEN: u32 = 0x100_0000;
 
@@ -55,9 +50,9 @@ fn has(flags: u32, bit: u32) -> bool
     flags & bit != 0
 }
 
-#[tactic(auto, using(crate::proofs::FieldLemmas::bytes_size), unfolding(crate::specs::ResponseLayout::answer_at))]
+#[tactic(auto, unfolding(crate::specs::ResponseLayout::answer_at))]
 fn answer_of(lenenc: bool, bytes: &[u8]) -> Result<(&[u8], &[u8]), MsgFault>
-    ensures fits { IfOk result (λ x. AnswerFits lenenc x.0.now) }
+    ensures fits { IfOk result (λ x. IsAnswer lenenc x.0.now) }
     ensures reads { Reads (λ x. (x.0.now, x.1.now)) result (answer_at lenenc bytes.now) }
 {
     if lenenc {
@@ -70,7 +65,7 @@ fn answer_of(lenenc: bool, bytes: &[u8]) -> Result<(&[u8], &[u8]), MsgFault>
 #[tactic(auto, unfolding(crate::specs::ResponseLayout::name_at))]
 fn name_at(given: bool, last: bool, bytes: &[u8]) -> Result<(Option<&[u8]>, &[u8]), MsgFault>
     ensures reads { Reads (λ x. (name_of x.0, x.1.now)) result (name_at given last bytes.now) }
-    ensures fits { IfOk result (λ x. NameFits given (name_of x.0)) }
+    ensures fits { IfOk result (λ x. IsName given (name_of x.0)) }
 {
     if !given {
         return Ok((None, bytes));
@@ -103,8 +98,8 @@ struct Names<'a> {
 #[tactic(auto, unfolding(crate::specs::ResponseLayout::names_at, crate::specs::Fields::ended))]
 fn names_of(flags: u32, bytes: &[u8]) -> Result<Names<'_>, MsgFault>
     ensures reads { Reads (λ names. (name_of names.database, name_of names.plugin)) result (names_at flags bytes.now) }
-    ensures database { IfOk result (λ names. NameFits (with_database flags) (name_of names.database)) }
-    ensures plugin { IfOk result (λ names. NameFits (with_plugin flags) (name_of names.plugin)) }
+    ensures database { IfOk result (λ names. IsName (with_database flags) (name_of names.database)) }
+    ensures plugin { IfOk result (λ names. IsName (with_plugin flags) (name_of names.plugin)) }
 {
     let plugged = has(flags, PLUGIN_AUTH);
     let listed = has(flags, CONNECT_ATTRS);
@@ -126,7 +121,7 @@ fn parts_of(payload: &[u8]) -> Result<Parts<'_>, MsgFault>
     let (charset, rest) = u8_at(rest)?;
     let (_, rest) = bytes_at(23, rest)?;
     let (user, rest) = zero_text_at(rest)?;
-    let (answer, rest) = answer_of(has(flags, PLUGIN_AUTH_LENENC), rest)?;
+    let (answer, rest) = answer_of(has(flags, PLUGIN_AUTH_LENENC_CLIENT_DATA), rest)?;
     let names = names_of(flags, rest)?;
     Ok(Parts {
         flags,
@@ -150,6 +145,7 @@ fn copied(alloc: Global, name: Option<&[u8]>) -> Result<Option<Text>, MsgFault>
 impl Response {
     /// The response in a payload. The greatest packet, the filler and the attributes are read over. The last text, a
     /// database or a plugin behind which nothing is to stand, may lack its zero byte.
+    #[tactic(auto, using(crate::proofs::MemoryLemmas::response_never))]
     pub fn decode(alloc: Global, payload: &[u8]) -> Result<Response, MsgFault>
         ensures gives { Gives result (response_at payload.now) }
         ensures fits { IfOk result IsResponse }
@@ -166,7 +162,9 @@ impl Response {
     }
 
     /// Appends the payload, with a greatest packet of 16 MiB and an empty list of attributes where the flags have
-    /// them. `Err` leaves `out` as it was.
+    /// them. What is written isn't read back where a zero byte stands in the user or a name, where the names don't go
+    /// with the flags, or where an answer above 255 bytes stands behind a length of one byte. `Err` leaves `out` as it
+    /// was.
     #[tactic(auto, using(crate::proofs::ResponseLemmas::response_again))]
     pub fn encode(&self, out: &mut Vec<u8>) -> Result<(), AllocError>
         ensures ok { OnOk result (out.new.items ≡ out.old.items ++ response_bytes self.now) }
@@ -188,7 +186,7 @@ impl Response {
     {
         let (flags, answer) = (self.flags, self.answer.as_slice());
         self.put_front(out)?;
-        put_answer(has(flags, PLUGIN_AUTH_LENENC), answer, out)?;
+        put_answer(has(flags, PLUGIN_AUTH_LENENC_CLIENT_DATA), answer, out)?;
         self.put_names(out)
     }
 

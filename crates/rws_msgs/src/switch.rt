@@ -12,8 +12,10 @@ use crate::writing::or_cut;
 use rws_wire::Text;
 use std::alloc::{AllocError, Global};
 
-/// AuthSwitchRequest: the side that asks for a login wants an answer by another plugin.
-#[derive(Debug, Drop)]
+/// Authentication Switch Request: the side that asks for a login wants an answer by another plugin, one that takes a
+/// scramble of 20 bytes with a zero byte behind it, as mysql_native_password. Other plugins' data is refused, as `Short`,
+/// `BadTag` or `Trailing`.
+#[derive(Debug, PartialEq, Eq, Drop)]
 pub struct Switch {
     /// The plugin's name.
     pub plugin: Text,
@@ -42,6 +44,7 @@ fn parts_of(payload: &[u8]) -> Result<Parts<'_>, MsgFault>
 
 impl Switch {
     /// The switch in a payload.
+    #[tactic(auto, using(crate::proofs::MemoryLemmas::switch_never))]
     pub fn decode(alloc: Global, payload: &[u8]) -> Result<Switch, MsgFault>
         ensures gives { Gives result (switch_at payload.now) }
         ensures no_zero { IfOk result (λ switch. HasNoZero switch.plugin) }
@@ -53,7 +56,8 @@ impl Switch {
         })
     }
 
-    /// Appends the payload. `Err` leaves `out` as it was.
+    /// Appends the payload. What is written isn't read back where a zero byte stands in the plugin's name. `Err` leaves
+    /// `out` as it was.
     #[tactic(auto, using(crate::proofs::SwitchLemmas::switch_again))]
     pub fn encode(&self, out: &mut Vec<u8>) -> Result<(), AllocError>
         ensures ok { OnOk result (out.new.items ≡ out.old.items ++ switch_bytes self.now) }

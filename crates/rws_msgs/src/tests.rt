@@ -1,9 +1,13 @@
 // Messages cut at each byte, and each message decoded and encoded once.
 
 use super::*;
+use rws_wire::Text;
 use std::test::Fail;
 
 const OK: [u8; 10] = [0x00, 0x01, 0x02, 0x02, 0x40, 0x00, 0x00, 0x00, 0x01, 0x07];
+
+// With an info, and without tracking.
+const UNTRACKED: [u8; 10] = [0x00, 0x01, 0x02, 0x02, 0x40, 0x00, 0x00, 0x02, b'a', b'b'];
 
 const ERR: [u8; 10] = [0xFF, 0x17, 0x04, b'#', b'0', b'8', b'S', b'0', b'1', b'x'];
 
@@ -17,6 +21,11 @@ const PREPARE: [u8; 12] = [0x00, 7, 0, 0, 0, 1, 0, 2, 0, 0x00, 0, 0];
 
 const EXECUTE: [u8; 16] = [0x17, 7, 0, 0, 0, 0, 1, 0, 0, 0, 0x00, 1, 3, 0, b'a', b'b'];
 
+// A parameter without its types.
+const UNTYPED: [u8; 12] = [0x17, 7, 0, 0, 0, 0, 1, 0, 0, 0, 0x01, 0];
+
+const NO_PARAMETERS: [u8; 10] = [0x17, 7, 0, 0, 0, 0, 1, 0, 0, 0];
+
 const GREETING: [u8; 49] = [
     10, b'v', 0x00, 7, 0, 0, 0, 1, 2, 3, 4, 5, 6, 7, 8, 0x00, 0x0F, 0xA7, 45, 2, 0, 0x3E, 0x00, 21,
     0, 0, 0, 0, 0, 0, 0, 0, 0, 0, 9, 10, 11, 12, 13, 14, 15, 16, 17, 18, 19, 20, 0x00, b'p', 0x00,
@@ -28,17 +37,56 @@ const RESPONSE: [u8; 41] = [
     0, 0, 0, 0, 0, b'u', 0x00, 1, 7, b'd', 0x00, b'p', 0x00, 0x00,
 ];
 
+// With a database and a plugin, an answer behind one byte and no attributes.
+const SHORT_RESPONSE: [u8; 41] = [
+    0x08, 0x00, 0x08, 0x00, 0, 0, 0, 1, 45, 0, 0, 0, 0, 0, 0, 0, 0, 0, 0, 0, 0, 0, 0, 0, 0, 0, 0,
+    0, 0, 0, 0, 0, b'u', 0x00, 1, 7, b'd', 0x00, b'p', b'q', 0x00,
+];
+
+#[test]
+fn cut_oks_are_short(rt: HostRuntime) -> Result<(), Fail> {
+    for (payload, track) in [(OK, true), (UNTRACKED, false)] {
+        for n in 0..payload.len() {
+            let want = if n == 7 { None } else { Some(MsgFault::Short) };
+            assert_eq!(rt;
+                OkMsg::decode(rt.alloc(), &payload[..n], track).err(),
+                want,
+                "OK {n}"
+            );
+        }
+        let want = OkMsg {
+            affected: 1,
+            insert_id: 2,
+            status: 0x4002,
+            warnings: 0,
+            info: Text::empty(rt.alloc()),
+            state: Text::empty(rt.alloc()),
+        };
+        assert_eq!(rt; OkMsg::decode(rt.alloc(), &payload[..7], track)?, want);
+    }
+    Ok(())
+}
+
+#[test]
+fn cut_executes_are_short(rt: HostRuntime) {
+    for (payload, parameters) in [
+        (&EXECUTE[..14], 1),
+        (UNTYPED.as_slice(), 1),
+        (&NO_PARAMETERS, 0),
+    ] {
+        for n in 0..payload.len() {
+            assert_eq!(rt;
+                ExecuteHead::decode(rt.alloc(), &payload[..n], parameters).err(),
+                Some(MsgFault::Short),
+                "execute {n}"
+            );
+        }
+    }
+}
+
 #[test]
 fn cut_messages_are_short(rt: HostRuntime) {
     let short = Some(MsgFault::Short);
-    for n in 0..OK.len() {
-        let want = if n == 7 { None } else { short };
-        assert_eq!(rt;
-            OkMsg::decode(rt.alloc(), &OK[..n], true).err(),
-            want,
-            "OK {n}"
-        );
-    }
     for n in 0..9 {
         assert_eq!(rt;
             ErrMsg::decode(rt.alloc(), &ERR[..n]).err(),
@@ -63,13 +111,6 @@ fn cut_messages_are_short(rt: HostRuntime) {
             "prepare {n}"
         );
     }
-    for n in 0..14 {
-        assert_eq!(rt;
-            ExecuteHead::decode(rt.alloc(), &EXECUTE[..n], 1).err(),
-            short,
-            "execute {n}"
-        );
-    }
 }
 
 #[test]
@@ -82,13 +123,58 @@ fn cut_logins_are_short(rt: HostRuntime) {
             "greeting {n}"
         );
     }
-    for n in 0..RESPONSE.len() {
+    for payload in [RESPONSE.as_slice(), &SHORT_RESPONSE[..38]] {
+        for n in 0..payload.len() {
+            assert_eq!(rt;
+                Response::decode(rt.alloc(), &payload[..n]).err(),
+                short,
+                "response {n}"
+            );
+        }
+    }
+}
+
+#[test]
+fn a_cut_last_name_is_a_shorter_one(rt: HostRuntime) -> Result<(), Fail> {
+    for (payload, plugin) in [
+        (&SHORT_RESPONSE[..38], b"".as_slice()),
+        (&SHORT_RESPONSE[..39], b"p"),
+        (&SHORT_RESPONSE[..40], b"pq"),
+        (&SHORT_RESPONSE, b"pq"),
+    ] {
+        let response = Response::decode(rt.alloc(), payload)?;
         assert_eq!(rt;
-            Response::decode(rt.alloc(), &RESPONSE[..n]).err(),
-            short,
-            "response {n}"
+            response.plugin.as_ref().map(|text| text.as_slice()),
+            Some(plugin)
         );
     }
+    Ok(())
+}
+
+#[test]
+fn fields_are_those_of_the_payload(rt: HostRuntime) -> Result<(), Fail> {
+    let err = ErrMsg {
+        code: 1047,
+        state: *b"08S01",
+        text: Text::from_slice(rt.alloc(), b"x")?,
+    };
+    assert_eq!(rt; ErrMsg::decode(rt.alloc(), &ERR)?, err);
+    let prepared = PrepareOk {
+        id: 7,
+        columns: 1,
+        parameters: 2,
+        warnings: 0,
+    };
+    assert_eq!(rt; PrepareOk::decode(&PREPARE)?, prepared);
+    let head = ExecuteHead {
+        id: 7,
+        flags: 0,
+        bitmap: Text::from_slice(rt.alloc(), &[0x00])?,
+        types: Some(Text::from_slice(rt.alloc(), &[3, 0])?),
+        values: Text::from_slice(rt.alloc(), b"ab")?,
+    };
+    assert_eq!(rt; ExecuteHead::decode(rt.alloc(), &EXECUTE, 1)?, head);
+    Ok(())
 }
 
 #[test]

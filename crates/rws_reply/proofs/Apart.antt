@@ -10,14 +10,14 @@ use Rattle.rws_msgs.specs.declared.fault.MsgFault.{MsgFault}
 use Rattle.rws_msgs.specs.declared.fault.MsgFault.TheVariants.{Short, BadTag}
 use Rattle.rws_wire.specs.Reading.{◌>>=◌}
 use Rattle.rws_msgs.specs.Fields.{fixed_at, number_at, ended, lenenc_at, text_at}
-use Rattle.rws_msgs.specs.OkLayout.{ok_at}
-use Rattle.rws_msgs.specs.ErrLayout.{err_at}
+use Rattle.rws_msgs.specs.OkLayout.{ok_at, ok_status}
+use Rattle.rws_msgs.specs.ErrLayout.{err_at, err_code}
 use Rattle.rws_msgs.specs.EofLayout.{eof_at}
 use Rattle.rws_msgs.specs.PrepareOkLayout.{prepare_ok_at}
 use Rattle.rws_msgs.proofs.FieldLemmas.{bind_ok, ok_is}
 use Rattle.std.proofs.lemmas.Bool.Decides.{nat_tests}
 use Rattle.rws_wire.specs.Lenenc.{lenenc}
-use Rattle.rws_reply.specs.Payloads.{ok_status, err_code, eof_status, column_count, is_definition, is_row, prepared_counts}
+use Rattle.rws_reply.specs.Payloads.{eof_status, column_count, is_definition, is_row, prepared_counts}
 
 -- a payload with this first byte
 abbrev pub Begins_by : ℕ → List ℕ → Type 0
@@ -38,7 +38,7 @@ fixed_first byte (b ∷ bs) f x e = by (b == byte) refl e
     by true g e = let same : b ≡ byte = grind (arith, nat_tests) in (bs, ap (λ (c : ℕ). c ∷ bs) same, e)
     by false g e = absurd cc
 
-pub ok_begins : (p : List ℕ) (status : ℕ) → ok_status p ≡ Some status → Begins_by 0x00 p
+pub ok_begins : (p : List ℕ) (status : ℕ) → ok_status true p ≡ Some status → Begins_by 0x00 p
 unfolding ok_status ok_at
 ok_begins p status e =
     let read = read_is (ok_at true p) _ status e in
@@ -119,7 +119,7 @@ none_is_some o x e f = absurd cc
 first_bytes : (a b : ℕ) (p : List ℕ) → Begins_by a p → Begins_by b p → a ≡ b
 first_bytes a b p x y = let same = sym x.1 ∙ y.1 in cc
 
-pub no_ok_in_err : (p : List ℕ) (code : ℕ) → err_code p ≡ Some code → ok_status p ≡ None
+pub no_ok_in_err : (p : List ℕ) (code : ℕ) → err_code p ≡ Some code → ok_status true p ≡ None
 no_ok_in_err p code e = none_unless _ (λ s o. absurd (let bytes = first_bytes 0x00 0xFF p (ok_begins p s o) (err_begins p code e) in omega arith))
 
 pub no_eof_in_err : (p : List ℕ) (code : ℕ) → err_code p ≡ Some code → eof_status p ≡ None
@@ -131,7 +131,7 @@ no_err_in_eof p status o = none_unless _ (λ code e. none_is_some _ status (no_e
 pub no_err_in_prepared : (p : List ℕ) (counts : ℕ × ℕ) → prepared_counts p ≡ Some counts → err_code p ≡ None
 no_err_in_prepared p counts o = none_unless _ (λ code e. absurd (let bytes = first_bytes 0x00 0xFF p (prepared_begins p counts o) (err_begins p code e) in omega arith))
 
-pub no_ok_in_count : (p : List ℕ) (count : ℕ) → column_count p ≡ Some count → ok_status p ≡ None
+pub no_ok_in_count : (p : List ℕ) (count : ℕ) → column_count p ≡ Some count → ok_status true p ≡ None
 no_ok_in_count p count o = none_unless _ (λ s e. let first = ok_begins p s e in none_is_some _ count (no_columns_0 first.0) (ap column_count (sym first.1) ∙ o))
 
 pub no_err_in_count : (p : List ℕ) (count : ℕ) → column_count p ≡ Some count → err_code p ≡ None

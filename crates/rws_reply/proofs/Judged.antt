@@ -2,8 +2,8 @@
 use Rattle.std.proofs.Common.{◌≡◌, ◌==◌, ℕ, zero, suc, Bool, true, false, List, [], ◌∷◌, ◌++◌, length, refl, sym, ap, ◌∙◌, subst, Some}
 use Rattle.rws_wire.specs.Lenenc.{lenenc}
 use Rattle.rws_msgs.specs.Fields.{fixed_at, number_at, bytes_at, ended, lenenc_at, text_at}
-use Rattle.rws_msgs.specs.OkLayout.{ok_at}
-use Rattle.rws_msgs.specs.ErrLayout.{err_at}
+use Rattle.rws_msgs.specs.OkLayout.{ok_at, ok_status}
+use Rattle.rws_msgs.specs.ErrLayout.{err_at, err_code}
 use Rattle.rws_msgs.specs.EofLayout.{eof_at}
 use Rattle.rws_msgs.specs.PrepareOkLayout.{prepare_ok_at}
 use Rattle.rws_reply.specs.declared.kind.Kind.{Kind}
@@ -11,7 +11,7 @@ use Rattle.rws_reply.specs.declared.awaits.Awaits.{Awaits}
 use Rattle.rws_reply.specs.declared.awaits.Awaits.TheVariants.{Simple, Query, Definitions, Rows, Prepare, Parameters, Columns, FieldList, Fields}
 use Rattle.rws_reply.specs.declared.awaits.Step.{Step}
 use Rattle.rws_reply.specs.declared.awaits.Step.TheVariants.{Goes, Done, Failed}
-use Rattle.rws_reply.specs.Payloads.{ok_status, err_code, eof_status, prepared_counts, is_definition}
+use Rattle.rws_reply.specs.Payloads.{eof_status, prepared_counts, is_definition}
 use Rattle.rws_reply.specs.Replies.{Payload, Outcome, Accepted, Refused, AreDefinitions, IsReply, Begins}
 use Rattle.rws_reply.specs.Tracking.{next, Verdict, Whole, Begun, Neither, proceed, run, first, defined, to_columns, Tracks}
 use Rattle.rws_reply.proofs.Runs.{run-append, run_past_whole, run_past_neither}

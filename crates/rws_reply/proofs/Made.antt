@@ -2,12 +2,14 @@
 use Rattle.std.proofs.Common.{◌≡◌, ◌==◌, ℕ, ◌+◌, ◌-◌, ◌<◌, Bool, true, false, cond, List, [], ◌∷◌, ◌++◌, length, refl, sym, ap, ◌∙◌, subst, append_assoc, Option, Some, None, arith, length-append, zero-add, append-nil}
 use Rattle.std.specs.List.{AllByRecursion}
 use Rattle.std.proofs.lemmas.Bool.Decides.{nat_tests}
+use Rattle.rws_msgs.specs.OkLayout.{ok_status}
+use Rattle.rws_msgs.specs.ErrLayout.{err_code}
 use Rattle.rws_reply.specs.declared.kind.Kind.{Kind}
 use Rattle.rws_reply.specs.declared.kind.Kind.TheVariants as kinds
 use Rattle.rws_reply.specs.declared.awaits.Awaits.{Awaits}
 use Rattle.rws_reply.specs.declared.awaits.Awaits.TheVariants.{Simple, Query, Definitions, Rows, Prepare, Parameters, Columns, FieldList, Fields}
 use Rattle.rws_reply.specs.declared.awaits.Step.TheVariants.{Goes, Done, Failed, Wrong}
-use Rattle.rws_reply.specs.Payloads.{has_more_results, ok_status, err_code, eof_status, column_count, is_definition, is_row, prepared_counts}
+use Rattle.rws_reply.specs.Payloads.{has_more_results, eof_status, column_count, is_definition, is_row, prepared_counts}
 use Rattle.rws_reply.specs.Replies as replies
 use Rattle.rws_reply.specs.Replies.{Payload, Outcome, Accepted, Refused, AreDefinitions, AreRows, IsHead, head, IsSimple, IsQuery, IsPart, IsPrepare, IsFieldList, IsReply}
 use Rattle.rws_reply.specs.Tracking.{next, given, after_result, Verdict, Whole, Begun, Neither, ends, proceed, run, defined, to_columns, to_parameters}
@@ -56,16 +58,16 @@ Made FieldList ps out = IsFieldList ps out
 Made Fields ps out = (before : List Payload) → AreDefinitions before → IsFieldList (before ++ ps) out
 
 module _ (p : Payload) (ps : List Payload) (out : Outcome) (others : (s : Awaits) → run ps s ≡ Whole out → Made s ps out) where
-  simple_made : (o : Option ℕ) → ok_status p ≡ o → (e : Option ℕ) → err_code p ≡ e → proceed (given o (λ status. Done status) (given e (λ code. Failed code) Wrong)) ps (run ps) ≡ Whole out → IsSimple (p ∷ ps) out
+  simple_made : (o : Option ℕ) → ok_status true p ≡ o → (e : Option ℕ) → err_code p ≡ e → proceed (given o (λ status. Done status) (given e (λ code. Failed code) Wrong)) ps (run ps) ≡ Whole out → IsSimple (p ∷ ps) out
   simple_made (Some status) f e g h = at_end (λ ps out. IsSimple (p ∷ ps) out) (Accepted status) ps out (replies.ok f) h
   simple_made None f (Some code) g h = at_end (λ ps out. IsSimple (p ∷ ps) out) (Refused code) ps out (replies.err g) h
   simple_made None f None g h = absurd cc
 
-  result_made : (status : ℕ) (more : Bool) → has_more_results status ≡ more → ok_status p ≡ Some status → proceed (cond more (Goes Query) (Done status)) ps (run ps) ≡ Whole out → IsQuery (p ∷ ps) out
+  result_made : (status : ℕ) (more : Bool) → has_more_results status ≡ more → ok_status true p ≡ Some status → proceed (cond more (Goes Query) (Done status)) ps (run ps) ≡ Whole out → IsQuery (p ∷ ps) out
   result_made status true m f h = replies.ok_more f m (others Query h)
   result_made status false m f h = at_end (λ ps out. IsQuery (p ∷ ps) out) (Accepted status) ps out (replies.ok f m) h
 
-  query_made : (o : Option ℕ) → ok_status p ≡ o → (e : Option ℕ) → err_code p ≡ e → (c : Option ℕ) → column_count p ≡ c → proceed (given o after_result (given e (λ code. Failed code) (given c (λ count. Goes (Definitions count)) Wrong))) ps (run ps) ≡ Whole out → IsQuery (p ∷ ps) out
+  query_made : (o : Option ℕ) → ok_status true p ≡ o → (e : Option ℕ) → err_code p ≡ e → (c : Option ℕ) → column_count p ≡ c → proceed (given o after_result (given e (λ code. Failed code) (given c (λ count. Goes (Definitions count)) Wrong))) ps (run ps) ≡ Whole out → IsQuery (p ∷ ps) out
   query_made (Some status) f e g c i h = result_made status (has_more_results status) refl f h
   query_made None f (Some code) g c i h = at_end (λ ps out. IsQuery (p ∷ ps) out) (Refused code) ps out (replies.err g) h
   query_made None f None g (Some count) i h = others (Definitions count) h p [] (i ∙ ap (λ (n : ℕ). Some n) (sym (zero-add count))) tt
@@ -135,8 +137,8 @@ module _ (p : Payload) (ps : List Payload) (out : Outcome) (others : (s : Awaits
   field_list_made None g h = fields_made (eof_status p) refl (is_definition p) refl h [] tt
 
   one_made : (s : Awaits) → proceed (next s p) ps (run ps) ≡ Whole out → Made s (p ∷ ps) out
-  one_made Simple h = simple_made (ok_status p) refl (err_code p) refl h
-  one_made Query h = query_made (ok_status p) refl (err_code p) refl (column_count p) refl h
+  one_made Simple h = simple_made (ok_status true p) refl (err_code p) refl h
+  one_made Query h = query_made (ok_status true p) refl (err_code p) refl (column_count p) refl h
   one_made (Definitions left) h = definitions_made left (left == 0) refl (eof_status p) refl (is_definition p) refl h
   one_made Rows h = rows_made (eof_status p) refl (err_code p) refl (is_row p) refl h
   one_made Prepare h = prepare_made (err_code p) refl (prepared_counts p) refl h

@@ -1,24 +1,14 @@
 -- What the payloads of a reply are ("Result Set Packets" of MariaDB's protocol documentation). A payload is the list of
 -- its bytes. An OK is read as between sides that have CLIENT_SESSION_TRACK: without a session state its layout is the
 -- same.
-use Rattle.std.specs.Prelude.{ℕ, suc, bit_and, Bool, true, false, not, ◌&&◌, ◌==◌, List, [], ◌∷◌, length, Option, Some, None, is_ok, nat_lt}
+use Rattle.std.specs.Prelude.{ℕ, suc, bit_and, Bool, false, not, ◌&&◌, ◌==◌, List, [], ◌∷◌, length, Option, Some, None, is_ok, nat_lt}
 use Rattle.std.specs.Option.{option_map}
 use Rattle.std.specs.Result.{result_ok}
 use Rattle.rws_wire.specs.Lenenc.{Lenenc, Integer, lenenc}
 use Rattle.rws_wire.specs.Reading.{◌>>=◌}
 use Rattle.rws_msgs.specs.Fields.{text_at}
-use Rattle.rws_msgs.specs.OkLayout.{ok_at}
-use Rattle.rws_msgs.specs.ErrLayout.{err_at}
 use Rattle.rws_msgs.specs.EofLayout.{eof_at}
 use Rattle.rws_msgs.specs.PrepareOkLayout.{prepare_ok_at}
-
--- the status of an OK
-unfoldable pub ok_status : List ℕ → Option ℕ
-ok_status payload = option_map (λ ok. ok.status) (result_ok (ok_at true payload))
-
--- the code of an ERR
-unfoldable pub err_code : List ℕ → Option ℕ
-err_code payload = option_map (λ err. err.code) (result_ok (err_at payload))
 
 -- the status of an EOF
 unfoldable pub eof_status : List ℕ → Option ℕ

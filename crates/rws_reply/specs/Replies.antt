@@ -2,9 +2,11 @@
 -- "COM_FIELD_LIST" of MariaDB's protocol documentation).
 use Rattle.std.specs.Prelude.{◌≡◌, ℕ, ◌<◌, true, false, List, [], ◌∷◌, ◌++◌, length, Some}
 use Rattle.std.specs.List.{AllByRecursion}
+use Rattle.rws_msgs.specs.OkLayout.{ok_status}
+use Rattle.rws_msgs.specs.ErrLayout.{err_code}
 use Rattle.rws_reply.specs.declared.kind.Kind.{Kind}
 use Rattle.rws_reply.specs.declared.kind.Kind.TheVariants.{Simple, Query, Prepare, FieldList}
-use Rattle.rws_reply.specs.Payloads.{has_more_results, ok_status, err_code, eof_status, column_count, is_definition, is_row, prepared_counts}
+use Rattle.rws_reply.specs.Payloads.{has_more_results, eof_status, column_count, is_definition, is_row, prepared_counts}
 
 abbrev pub Payload : Type 0
 Payload = List ℕ
@@ -28,13 +30,13 @@ pub data IsHead : List Payload → Type 0 where
 
 -- one OK, or one ERR
 pub data IsSimple : List Payload → Outcome → Type 0 where
-  ok : {p : Payload} {status : ℕ} → ok_status p ≡ Some status → IsSimple (p ∷ []) (Accepted status)
+  ok : {p : Payload} {status : ℕ} → ok_status true p ≡ Some status → IsSimple (p ∷ []) (Accepted status)
   err : {p : Payload} {code : ℕ} → err_code p ≡ Some code → IsSimple (p ∷ []) (Refused code)
 
 -- OKs and results, each but the last with the bit of more results; an ERR may stand in place of the last, or end it
 pub data IsQuery : List Payload → Outcome → Type 0 where
-  ok : {p : Payload} {status : ℕ} → ok_status p ≡ Some status → has_more_results status ≡ false → IsQuery (p ∷ []) (Accepted status)
-  ok_more : {p : Payload} {status : ℕ} {others : List Payload} {out : Outcome} → ok_status p ≡ Some status → has_more_results status ≡ true → IsQuery others out → IsQuery (p ∷ others) out
+  ok : {p : Payload} {status : ℕ} → ok_status true p ≡ Some status → has_more_results status ≡ false → IsQuery (p ∷ []) (Accepted status)
+  ok_more : {p : Payload} {status : ℕ} {others : List Payload} {out : Outcome} → ok_status true p ≡ Some status → has_more_results status ≡ true → IsQuery others out → IsQuery (p ∷ others) out
   err : {p : Payload} {code : ℕ} → err_code p ≡ Some code → IsQuery (p ∷ []) (Refused code)
   rows : (front rs : List Payload) (p : Payload) {status : ℕ} → IsHead front → AreRows rs → eof_status p ≡ Some status → has_more_results status ≡ false → IsQuery (front ++ (rs ++ (p ∷ []))) (Accepted status)
   rows_more : (front rs : List Payload) (p : Payload) (others : List Payload) {status : ℕ} {out : Outcome} → IsHead front → AreRows rs → eof_status p ≡ Some status → has_more_results status ≡ true → IsQuery others out → IsQuery (front ++ (rs ++ (p ∷ others))) out

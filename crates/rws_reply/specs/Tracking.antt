@@ -1,5 +1,7 @@
 -- Where a tracker stands in a reply, and what it says of the payloads so far.
-use Rattle.std.specs.Prelude.{◌≡◌, ◌==◌, ℕ, ◌-◌, List, [], ◌∷◌, Option, Some, None, Result, Ok, Err, if◌then◌else◌}
+use Rattle.std.specs.Prelude.{◌≡◌, ◌==◌, ℕ, ◌-◌, true, List, [], ◌∷◌, Option, Some, None, Result, Ok, Err, if◌then◌else◌}
+use Rattle.rws_msgs.specs.OkLayout.{ok_status}
+use Rattle.rws_msgs.specs.ErrLayout.{err_code}
 use Rattle.rws_reply.specs.declared.kind.Kind.{Kind}
 use Rattle.rws_reply.specs.declared.kind.Kind.TheVariants as kinds
 use Rattle.rws_reply.specs.declared.kind.Progress.{Progress}
@@ -9,7 +11,7 @@ use Rattle.rws_reply.specs.declared.awaits.Awaits.{Awaits}
 use Rattle.rws_reply.specs.declared.awaits.Awaits.TheVariants.{Simple, Query, Definitions, Rows, Prepare, Parameters, Columns, FieldList, Fields}
 use Rattle.rws_reply.specs.declared.awaits.Step.{Step}
 use Rattle.rws_reply.specs.declared.awaits.Step.TheVariants.{Goes, Done, Failed, Wrong}
-use Rattle.rws_reply.specs.Payloads.{has_more_results, ok_status, err_code, eof_status, column_count, is_definition, is_row, prepared_counts}
+use Rattle.rws_reply.specs.Payloads.{has_more_results, eof_status, column_count, is_definition, is_row, prepared_counts}
 use Rattle.rws_reply.specs.Replies.{Payload, Outcome, Accepted, Refused, IsReply, Begins}
 
 abbrev pub given : {A : Type 0} → Option A → (A → Step) → Step → Step
@@ -35,8 +37,8 @@ defined left payload fewer behind =
 
 -- what one more payload leads to
 abbrev pub next : Awaits → Payload → Step
-next Simple p = given (ok_status p) (λ status. Done status) (given (err_code p) (λ code. Failed code) Wrong)
-next Query p = given (ok_status p) after_result (given (err_code p) (λ code. Failed code) (given (column_count p) (λ count. Goes (Definitions count)) Wrong))
+next Simple p = given (ok_status true p) (λ status. Done status) (given (err_code p) (λ code. Failed code) Wrong)
+next Query p = given (ok_status true p) after_result (given (err_code p) (λ code. Failed code) (given (column_count p) (λ count. Goes (Definitions count)) Wrong))
 next (Definitions left) p = defined left p (λ left. Goes (Definitions left)) (λ _. Goes Rows)
 next Rows p = given (eof_status p) after_result (given (err_code p) (λ code. Failed code) (if is_row p then Goes Rows else Wrong))
 next Prepare p = given (err_code p) (λ code. Failed code) (given (prepared_counts p) to_parameters Wrong)

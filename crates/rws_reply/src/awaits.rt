@@ -4,6 +4,7 @@ ghost use Rattle.std.specs.Prelude.{◌≡◌};
 ghost use Rattle.rws_reply.specs.Tracking.{after_result, next, to_columns, to_parameters};
 
 use crate::payload;
+use rws_msgs::{err_code, ok_status};
 
 /// What a tracker waits for.
 #[derive(Clone, Copy)]
@@ -72,9 +73,9 @@ fn parameters_next(columns: u16, parameters: u16) -> Step
 fn simple(payload: &[u8]) -> Step
     ensures { result ≡ next Awaits.Simple payload.now }
 {
-    if let Some(status) = payload::ok(payload) {
+    if let Some(status) = ok_status(payload, true) {
         Step::Done(status)
-    } else if let Some(code) = payload::err(payload) {
+    } else if let Some(code) = err_code(payload) {
         Step::Failed(code)
     } else {
         Step::Wrong
@@ -84,9 +85,9 @@ fn simple(payload: &[u8]) -> Step
 fn query(payload: &[u8]) -> Step
     ensures { result ≡ next Awaits.Query payload.now }
 {
-    if let Some(status) = payload::ok(payload) {
+    if let Some(status) = ok_status(payload, true) {
         result_end(status)
-    } else if let Some(code) = payload::err(payload) {
+    } else if let Some(code) = err_code(payload) {
         Step::Failed(code)
     } else if let Some(count) = payload::columns(payload) {
         Step::Goes(Awaits::Definitions(count))
@@ -115,7 +116,7 @@ fn rows(payload: &[u8]) -> Step
 {
     if let Some(status) = payload::eof(payload) {
         result_end(status)
-    } else if let Some(code) = payload::err(payload) {
+    } else if let Some(code) = err_code(payload) {
         Step::Failed(code)
     } else if payload::row(payload) {
         Step::Goes(Awaits::Rows)
@@ -127,7 +128,7 @@ fn rows(payload: &[u8]) -> Step
 fn prepare(payload: &[u8]) -> Step
     ensures { result ≡ next Awaits.Prepare payload.now }
 {
-    if let Some(code) = payload::err(payload) {
+    if let Some(code) = err_code(payload) {
         Step::Failed(code)
     } else if let Some((columns, parameters)) = payload::prepared(payload) {
         parameters_next(columns, parameters)
@@ -172,7 +173,7 @@ fn columns(left: u16, payload: &[u8]) -> Step
 fn field_list(payload: &[u8]) -> Step
     ensures { result ≡ next Awaits.FieldList payload.now }
 {
-    match payload::err(payload) {
+    match err_code(payload) {
         Some(code) => Step::Failed(code),
         None => fields(payload),
     }

@@ -1,35 +1,17 @@
 //! What a payload of a reply is, by its bytes.
 
 ghost use Rattle.std.specs.Prelude.{◌≡◌, is_ok};
-ghost use Rattle.rws_reply.specs.Payloads.{has_more_results, ok_status, err_code, eof_status, column_count, is_definition, is_row, prepared_counts};
+ghost use Rattle.rws_reply.specs.Payloads.{has_more_results, eof_status, column_count, is_definition, is_row, prepared_counts};
 
+use rws_msgs::status::MORE_RESULTS_EXISTS;
 use rws_msgs::{EofMsg, MsgFault, PrepareOk, split_text};
 use rws_wire::split_lenenc;
-
-/// Status bit `SERVER_MORE_RESULTS_EXIST`.
-const MORE_RESULTS: u16 = 0x0008;
 
 /// Whether another result follows.
 pub fn has_more(status: u16) -> bool
     ensures { result ≡ has_more_results status }
 {
-    status & MORE_RESULTS != 0
-}
-
-/// The status of an OK.
-#[tactic(auto, unfolding(crate::specs::Payloads::ok_status))]
-pub fn ok(payload: &[u8]) -> Option<u16>
-    ensures { result ≡ ok_status payload.now }
-{
-    rws_msgs::ok_status(payload, true)
-}
-
-/// The code of an ERR.
-#[tactic(auto, unfolding(crate::specs::Payloads::err_code))]
-pub fn err(payload: &[u8]) -> Option<u16>
-    ensures { result ≡ err_code payload.now }
-{
-    rws_msgs::err_code(payload)
+    status & MORE_RESULTS_EXISTS != 0
 }
 
 /// The status of an EOF.

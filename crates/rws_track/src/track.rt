@@ -7,11 +7,9 @@ ghost use Rattle.rws_track.specs.Client.{client_form};
 use crate::state::last_in_state;
 use rws_gtid::Gtid;
 use rws_msgs::OkMsg;
+use rws_msgs::status::SESSION_STATE_CHANGED;
 use rws_wire::Text;
 use std::alloc::{AllocError, Global};
-
-// Status bit `SERVER_SESSION_STATE_CHANGED`.
-const SESSION_STATE: u16 = 0x4000;
 
 /// The last GTID of the domain that the OK names in the system variable `last_gtid`. `None` where it names none, or where
 /// an entry or a variable of its state breaks off.
@@ -31,7 +29,7 @@ pub fn strip(alloc: Global, ok: &OkMsg) -> Result<OkMsg, AllocError>
     Ok(OkMsg {
         affected: ok.affected,
         insert_id: ok.insert_id,
-        status: ok.status & !SESSION_STATE,
+        status: ok.status & !SESSION_STATE_CHANGED,
         warnings: ok.warnings,
         info: ok.info.clone()?,
         state: Text::empty(alloc),
