@@ -1,4 +1,4 @@
-//! The kinds of reply, and what is said of one.
+// The kinds of reply, and what is said of one.
 
 /// What a command is answered by.
 #[derive(Clone, Copy, Debug, PartialEq, Eq)]
