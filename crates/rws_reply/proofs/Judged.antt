@@ -1,5 +1,5 @@
 -- What an answer of the tracker says: whole replies end, and each beginning of one can be completed.
-use Rattle.std.proofs.Common.{◌≡◌, ◌==◌, ℕ, zero, suc, Bool, true, false, List, [], ◌∷◌, ◌++◌, length, refl, sym, ap, ◌∙◌, subst, Some}
+use Rattle.std.proofs.Common.{◌≡◌, ◌==◌, ℕ, zero, suc, Bool, true, false, List, [], ◌∷◌, ◌++◌, length, refl, sym, ap, ◌∙◌, subst, Option, Some}
 use Rattle.rws_wire.specs.Lenenc.{lenenc}
 use Rattle.rws_msgs.specs.Fields.{fixed_at, number_at, bytes_at, ended, lenenc_at, text_at}
 use Rattle.rws_msgs.specs.OkLayout.{ok_at, ok_status}
@@ -13,7 +13,8 @@ use Rattle.rws_reply.specs.declared.awaits.Step.{Step}
 use Rattle.rws_reply.specs.declared.awaits.Step.TheVariants.{Goes, Done, Failed}
 use Rattle.rws_reply.specs.Payloads.{eof_status, prepared_counts, is_definition}
 use Rattle.rws_reply.specs.Replies.{Payload, Outcome, Accepted, Refused, AreDefinitions, IsReply, Begins}
-use Rattle.rws_reply.specs.Tracking.{next, Verdict, Whole, Begun, Neither, proceed, run, first, defined, to_columns, Tracks}
+use Rattle.rws_reply.specs.Machine.{next, Verdict, Whole, Begun, Neither, proceed, run, first, defined, to_columns}
+use Rattle.rws_reply.specs.Tracking.{Tracks}
 use Rattle.rws_reply.proofs.Runs.{run-append, run_past_whole, run_past_neither}
 use Rattle.rws_reply.proofs.Whole.{definitions_run, reply_runs}
 use Rattle.rws_reply.proofs.Made.{reply_made}
@@ -94,7 +95,7 @@ some_payload [] s out e = absurd cc
 some_payload (q ∷ qs) s out e = (q, qs, refl)
 
 module _ (kind : Kind) (ps : List Payload) where
-  begins : (t : Awaits) → Tracks t kind ps → Begins kind ps
+  begins : (t : Awaits) → run ps (first kind) ≡ Begun t → Begins kind ps
   begins t tracked =
       let last = ends_of t in
       let some_ = some_payload last.0 t last.1 last.2 in (
@@ -111,7 +112,7 @@ module _ (kind : Kind) (ps : List Payload) where
   no_whole_neither : (v : Verdict) (out : Outcome) → v ≡ Neither → v ≡ Whole out → ⊥
   no_whole_neither v out e f = let both = sym e ∙ f in absurd cc
 
-  pub begun_is : (t : Awaits) → Tracks t kind ps → Begins kind ps × ((out : Outcome) → IsReply kind ps out → ⊥)
+  pub begun_is : (t : Awaits) → run ps (first kind) ≡ Begun t → Begins kind ps × ((out : Outcome) → IsReply kind ps out → ⊥)
   begun_is t tracked = (begins t tracked, λ out reply. no_whole_begun _ t out tracked (reply_runs kind ps out reply))
 
   pub whole_is : (out : Outcome) → run ps (first kind) ≡ Whole out → IsReply kind ps out × (Begins kind ps → ⊥)
@@ -123,7 +124,8 @@ module _ (kind : Kind) (ps : List Payload) where
     λ out reply. no_whole_neither _ out e (reply_runs kind ps out reply),
   )
 
--- the payload p, after those so far; the tracker is opened, and its state is s
-pub one_more : (kind : Kind) (sofar : List Payload) (p : Payload) (s opened : Awaits) (step : Step) → opened ≡ s → Tracks s kind sofar → step ≡ next opened p → run (sofar ++ p ∷ []) (first kind) ≡ proceed step [] (run [])
-one_more kind sofar p s opened step same tracked e =
-    run-append sofar (p ∷ []) (first kind) s tracked ∙ ap (λ (t : Awaits). proceed (next t p) [] (run [])) (sym same) ∙ ap (λ (t : Step). proceed t [] (run [])) (sym e)
+-- the payload p, after those so far: the tracker's state is s, in which it waits for awaits
+pub one_more : (kind : Kind) (sofar : List Payload) (p : Payload) (s : Option Awaits) (awaits : Awaits) (step : Step) → Some awaits ≡ s → Tracks s kind sofar → step ≡ next awaits p → run (sofar ++ p ∷ []) (first kind) ≡ proceed step [] (run [])
+one_more kind sofar p s awaits step is tracked e =
+    run-append sofar (p ∷ []) (first kind) awaits (subst (λ (t : Option Awaits). Tracks t kind sofar) (sym is) tracked)
+    ∙ ap (λ (t : Step). proceed t [] (run [])) (sym e)

@@ -12,8 +12,8 @@ use Rattle.rws_reply.specs.declared.awaits.Step.TheVariants.{Goes, Done, Failed,
 use Rattle.rws_reply.specs.Payloads.{has_more_results, eof_status, column_count, is_definition, is_row, prepared_counts}
 use Rattle.rws_reply.specs.Replies as replies
 use Rattle.rws_reply.specs.Replies.{Payload, Outcome, Accepted, Refused, AreDefinitions, AreRows, IsHead, head, IsSimple, IsQuery, IsPart, IsPrepare, IsFieldList, IsReply}
-use Rattle.rws_reply.specs.Tracking.{next, given, after_result, Verdict, Whole, Begun, Neither, ends, proceed, run, defined, to_columns, to_parameters}
-use Rattle.rws_reply.specs.Tracking as tracking
+use Rattle.rws_reply.specs.Machine.{next, given, after_result, Verdict, Whole, Begun, Neither, ends, proceed, run, defined, to_columns, to_parameters}
+use Rattle.rws_reply.specs.Machine as machine
 
 all_push : (P : Payload → Type 0) (ps : List Payload) (p : Payload) → AllByRecursion P ps → P p → AllByRecursion P (ps ++ p ∷ [])
 all_push P [] p all here = (here, tt)
@@ -151,7 +151,7 @@ made : (ps : List Payload) (s : Awaits) (out : Outcome) → run ps s ≡ Whole o
 made [] s out h = absurd cc
 made (p ∷ ps) s out h = one_made p ps out (λ t e. made ps t out e) s h
 
-pub reply_made : (kind : Kind) (ps : List Payload) (out : Outcome) → run ps (tracking.first kind) ≡ Whole out → IsReply kind ps out
+pub reply_made : (kind : Kind) (ps : List Payload) (out : Outcome) → run ps (machine.first kind) ≡ Whole out → IsReply kind ps out
 reply_made kinds.Simple ps out h = made ps Simple out h
 reply_made kinds.Query ps out h = made ps Query out h
 reply_made kinds.Prepare ps out h = made ps Prepare out h

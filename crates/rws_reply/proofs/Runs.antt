@@ -4,7 +4,7 @@ use Rattle.rws_reply.specs.declared.awaits.Awaits.{Awaits}
 use Rattle.rws_reply.specs.declared.awaits.Step.{Step}
 use Rattle.rws_reply.specs.declared.awaits.Step.TheVariants.{Goes, Done, Failed, Wrong}
 use Rattle.rws_reply.specs.Replies.{Payload, Outcome}
-use Rattle.rws_reply.specs.Tracking.{next, Whole, Begun, Neither, ends, proceed, run}
+use Rattle.rws_reply.specs.Machine.{next, Whole, Begun, Neither, ends, proceed, run}
 
 awaits_is : (s t : Awaits) → Begun s ≡ Begun t → s ≡ t
 awaits_is s t e = cc

@@ -1,3 +1,4 @@
 pub mod Payloads
 pub mod Replies
+pub mod Machine
 pub mod Tracking

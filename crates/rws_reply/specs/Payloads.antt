@@ -1,6 +1,6 @@
 -- What the payloads of a reply are ("Result Set Packets" of MariaDB's protocol documentation). A payload is the list of
--- its bytes. An OK is read as between sides that have CLIENT_SESSION_TRACK: without a session state its layout is the
--- same.
+-- its bytes. An OK is read as between sides that have CLIENT_SESSION_TRACK; for a status without 0x4000 the layout is
+-- the same between others.
 use Rattle.std.specs.Prelude.{ℕ, suc, bit_and, Bool, false, not, ◌&&◌, ◌==◌, List, [], ◌∷◌, length, Option, Some, None, is_ok, nat_lt}
 use Rattle.std.specs.Option.{option_map}
 use Rattle.std.specs.Result.{result_ok}
@@ -45,6 +45,7 @@ abbrev pub begins_with : ℕ → List ℕ → Bool
 begins_with byte [] = false
 begins_with byte (b ∷ bs) = b == byte
 
--- a row is any payload but an ERR and what an EOF begins: a row that begins with 0xFE has a column of 2^24 bytes or more
+-- a row: any payload but one that begins with 0xFF, or with 0xFE and is shorter than 9 bytes; in a row, 0xFE stands
+-- before the 8 bytes of the length of a column
 unfoldable pub is_row : List ℕ → Bool
 is_row payload = not (begins_with 0xFF payload) && not (begins_with 0xFE payload && nat_lt (length payload) 9)

@@ -1,5 +1,6 @@
 -- The whole replies to a command of each kind, as lists of payloads ("Result Set Packets", "COM_STMT_PREPARE" and
--- "COM_FIELD_LIST" of MariaDB's protocol documentation).
+-- "COM_FIELD_LIST" of MariaDB's protocol documentation), on a link with CLIENT_PROTOCOL_41 and CLIENT_SESSION_TRACK and
+-- without CLIENT_DEPRECATE_EOF.
 use Rattle.std.specs.Prelude.{◌≡◌, ℕ, ◌<◌, true, false, List, [], ◌∷◌, ◌++◌, length, Some}
 use Rattle.std.specs.List.{AllByRecursion}
 use Rattle.rws_msgs.specs.OkLayout.{ok_status}
@@ -26,7 +27,9 @@ AreRows payloads = AllByRecursion (λ payload. is_row payload ≡ true) payloads
 
 -- what stands before the rows of a result: the number of its columns, that many definitions, and an EOF
 pub data IsHead : List Payload → Type 0 where
-  head : (count : Payload) (definitions : List Payload) (eof : Payload) {status : ℕ} → column_count count ≡ Some (length definitions) → AreDefinitions definitions → eof_status eof ≡ Some status → IsHead (count ∷ (definitions ++ (eof ∷ [])))
+  head : (count : Payload) (definitions : List Payload) (eof : Payload) {status : ℕ}
+      → column_count count ≡ Some (length definitions) → AreDefinitions definitions → eof_status eof ≡ Some status
+      → IsHead (count ∷ (definitions ++ (eof ∷ [])))
 
 -- one OK, or one ERR
 pub data IsSimple : List Payload → Outcome → Type 0 where
@@ -35,28 +38,49 @@ pub data IsSimple : List Payload → Outcome → Type 0 where
 
 -- OKs and results, each but the last with the bit of more results; an ERR may stand in place of the last, or end it
 pub data IsQuery : List Payload → Outcome → Type 0 where
-  ok : {p : Payload} {status : ℕ} → ok_status true p ≡ Some status → has_more_results status ≡ false → IsQuery (p ∷ []) (Accepted status)
-  ok_more : {p : Payload} {status : ℕ} {others : List Payload} {out : Outcome} → ok_status true p ≡ Some status → has_more_results status ≡ true → IsQuery others out → IsQuery (p ∷ others) out
+  ok : {p : Payload} {status : ℕ}
+      → ok_status true p ≡ Some status → has_more_results status ≡ false
+      → IsQuery (p ∷ []) (Accepted status)
+  ok_more : {p : Payload} {status : ℕ} {others : List Payload} {out : Outcome}
+      → ok_status true p ≡ Some status → has_more_results status ≡ true → IsQuery others out
+      → IsQuery (p ∷ others) out
   err : {p : Payload} {code : ℕ} → err_code p ≡ Some code → IsQuery (p ∷ []) (Refused code)
-  rows : (front rs : List Payload) (p : Payload) {status : ℕ} → IsHead front → AreRows rs → eof_status p ≡ Some status → has_more_results status ≡ false → IsQuery (front ++ (rs ++ (p ∷ []))) (Accepted status)
-  rows_more : (front rs : List Payload) (p : Payload) (others : List Payload) {status : ℕ} {out : Outcome} → IsHead front → AreRows rs → eof_status p ≡ Some status → has_more_results status ≡ true → IsQuery others out → IsQuery (front ++ (rs ++ (p ∷ others))) out
-  rows_err : (front rs : List Payload) (p : Payload) {code : ℕ} → IsHead front → AreRows rs → err_code p ≡ Some code → IsQuery (front ++ (rs ++ (p ∷ []))) (Refused code)
+  rows : (front rs : List Payload) (p : Payload) {status : ℕ}
+      → IsHead front → AreRows rs → eof_status p ≡ Some status → has_more_results status ≡ false
+      → IsQuery (front ++ (rs ++ (p ∷ []))) (Accepted status)
+  rows_more : (front rs : List Payload) (p : Payload) (others : List Payload) {status : ℕ} {out : Outcome}
+      → IsHead front → AreRows rs → eof_status p ≡ Some status → has_more_results status ≡ true → IsQuery others out
+      → IsQuery (front ++ (rs ++ (p ∷ others))) out
+  rows_err : (front rs : List Payload) (p : Payload) {code : ℕ}
+      → IsHead front → AreRows rs → err_code p ≡ Some code
+      → IsQuery (front ++ (rs ++ (p ∷ []))) (Refused code)
 
 -- so many definitions and an EOF, or nothing where there are none; the status before and after them
 pub data IsPart : ℕ → List Payload → ℕ → ℕ → Type 0 where
   none : {status : ℕ} → IsPart 0 [] status status
-  some : (definitions : List Payload) (eof : Payload) {before after : ℕ} → 0 < length definitions → AreDefinitions definitions → eof_status eof ≡ Some after → IsPart (length definitions) (definitions ++ (eof ∷ [])) before after
+  some : (definitions : List Payload) (eof : Payload) {before after : ℕ}
+      → 0 < length definitions → AreDefinitions definitions → eof_status eof ≡ Some after
+      → IsPart (length definitions) (definitions ++ (eof ∷ [])) before after
 
--- an ERR, or a PrepareOk, the definitions of its parameters and those of its columns. Without any it has the status of
--- autocommit alone, 0x0002.
+-- the status SERVER_STATUS_AUTOCOMMIT alone
+abbrev pub autocommit : ℕ
+autocommit = 0x0002
+
+-- an ERR, or a PrepareOk, the definitions of its parameters and those of its columns. No status is sent where there are
+-- none of either: then it is that of autocommit.
 pub data IsPrepare : List Payload → Outcome → Type 0 where
   err : {p : Payload} {code : ℕ} → err_code p ≡ Some code → IsPrepare (p ∷ []) (Refused code)
-  prepared : (p : Payload) (parameters columns : List Payload) {counts : ℕ × ℕ} {between after : ℕ} → prepared_counts p ≡ Some counts → IsPart counts.1 parameters 0x0002 between → IsPart counts.0 columns between after → IsPrepare (p ∷ (parameters ++ columns)) (Accepted after)
+  prepared : (p : Payload) (parameters columns : List Payload) {counts : ℕ × ℕ} {between after : ℕ}
+      → prepared_counts p ≡ Some counts
+      → IsPart counts.1 parameters autocommit between → IsPart counts.0 columns between after
+      → IsPrepare (p ∷ (parameters ++ columns)) (Accepted after)
 
 -- an ERR, or definitions and an EOF
 pub data IsFieldList : List Payload → Outcome → Type 0 where
   err : {p : Payload} {code : ℕ} → err_code p ≡ Some code → IsFieldList (p ∷ []) (Refused code)
-  fields : (definitions : List Payload) (p : Payload) {status : ℕ} → AreDefinitions definitions → eof_status p ≡ Some status → IsFieldList (definitions ++ (p ∷ [])) (Accepted status)
+  fields : (definitions : List Payload) (p : Payload) {status : ℕ}
+      → AreDefinitions definitions → eof_status p ≡ Some status
+      → IsFieldList (definitions ++ (p ∷ [])) (Accepted status)
 
 abbrev pub IsReply : Kind → List Payload → Outcome → Type 0
 IsReply Simple = IsSimple
@@ -66,4 +90,5 @@ IsReply FieldList = IsFieldList
 
 -- some whole reply begins with these payloads and has more
 abbrev pub Begins : Kind → List Payload → Type 0
-Begins kind payloads = (next : Payload) × (others : List Payload) × (out : Outcome) × IsReply kind (payloads ++ (next ∷ others)) out
+Begins kind payloads =
+    (next : Payload) × (others : List Payload) × (out : Outcome) × IsReply kind (payloads ++ (next ∷ others)) out

@@ -1,39 +1,44 @@
-//! What may come next in a reply.
+// What may come next in a reply.
 
 ghost use Rattle.std.specs.Prelude.{◌≡◌};
-ghost use Rattle.rws_reply.specs.Tracking.{after_result, next, to_columns, to_parameters};
+ghost use Rattle.rws_reply.specs.Machine.{after_result, next, to_columns, to_parameters};
 
 use crate::payload;
+use rws_msgs::status::AUTOCOMMIT;
 use rws_msgs::{err_code, ok_status};
 
-/// What a tracker waits for.
+// What a tracker waits for.
 #[derive(Clone, Copy)]
 pub enum Awaits {
-    /// An OK or an ERR.
+    // An OK or an ERR.
     Simple,
-    /// The first payload of a result of a query.
+    // The first payload of a result of a query.
     Query,
-    /// So many more definitions of columns, and an EOF.
+    // So many more definitions of columns, and an EOF.
     Definitions(u64),
-    /// The rows of a result.
+    // The rows of a result.
     Rows,
-    /// A PrepareOk or an ERR.
+    // A PrepareOk or an ERR.
     Prepare,
-    /// So many more definitions of parameters, and an EOF; then those of so many columns.
+    // So many more definitions of parameters, and an EOF; then those of so many columns.
     Parameters { left: u16, columns: u16 },
-    /// So many more definitions of a prepared statement's columns, and an EOF.
+    // So many more definitions of a prepared statement's columns, and an EOF.
     Columns(u16),
-    /// The first payload of a list of fields.
+    // The first payload of a list of fields.
     FieldList,
-    /// The rest of a list of fields.
+    // The rest of a list of fields.
     Fields,
 }
 
-/// What a payload leads to.
+// What a payload leads to.
 pub enum Step {
+    // The reply goes on, and this may come next.
     Goes(Awaits),
+    // The reply is whole, with the status of its last OK or EOF.
     Done(u16),
+    // The reply is whole, with the code of its ERR.
     Failed(u16),
+    // The payload can't stand here.
     Wrong,
 }
 
@@ -61,7 +66,7 @@ fn parameters_next(columns: u16, parameters: u16) -> Step
     ensures { result ≡ to_parameters (columns, parameters) }
 {
     if parameters == 0 {
-        columns_next(columns, 0x0002)
+        columns_next(columns, AUTOCOMMIT)
     } else {
         Step::Goes(Awaits::Parameters {
             left: parameters,
@@ -191,7 +196,7 @@ fn fields(payload: &[u8]) -> Step
     }
 }
 
-/// What one more payload leads to.
+// What one more payload leads to.
 pub fn after(awaits: Awaits, payload: &[u8]) -> Step
     ensures { result ≡ next awaits payload.now }
 {

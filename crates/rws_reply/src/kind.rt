@@ -1,4 +1,4 @@
-//! The kinds of reply, and what is said of one.
+// The kinds of reply, and what is said of one.
 
 /// What a command is answered by.
 #[derive(Clone, Copy, Debug, PartialEq, Eq)]
@@ -25,6 +25,6 @@ pub enum Progress {
     Failed { code: u16 },
 }
 
-/// The payloads so far begin no reply of the kind.
+/// The payloads so far begin no reply of the kind, or the reply was whole already.
 #[derive(Clone, Copy, Debug, PartialEq, Eq)]
 pub struct BadReply;

@@ -1,4 +1,6 @@
 //! Whole replies: where the reply to a command ends, told payload by payload.
+//!
+//! They come on a link with `CLIENT_PROTOCOL_41` and `CLIENT_SESSION_TRACK` and without `CLIENT_DEPRECATE_EOF`.
 #![tactic(auto)]
 
 mod awaits;
