@@ -1,5 +1,5 @@
-// What stands between a worker and the outside: events, actions, the traits of input and output, and the
-// trace text in which both are written.
+//! What stands between a worker and the outside: events, actions, the traits of input and output, and the
+//! trace text in which both are written.
 #![tactic(auto)]
 
 mod action;

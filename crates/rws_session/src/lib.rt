@@ -1,5 +1,5 @@
-// One session of a client: what it takes from the client and from its server, and what it gives out; and the laws
-// of its record and of a worker's run.
+//! One session of a client: what it takes from the client and from its server, and what it gives out; and the laws
+//! of its record and of a worker's run.
 #![tactic(auto)]
 
 mod input;

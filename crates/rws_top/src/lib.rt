@@ -1,4 +1,4 @@
-// The program's top call: it reads the words, and runs a worker over the events of a trace.
+//! The program's top call: it reads the words, and runs a worker over the events of a trace.
 #![tactic(auto)]
 
 mod printer;

@@ -1,5 +1,5 @@
-// rwsplit: a read/write splitting proxy for MariaDB. The program's streams and words; all else stands in
-// the crates below.
+//! rwsplit: a read/write splitting proxy for MariaDB. The program's streams and words; all else stands in
+//! the crates below.
 #![tactic(auto)]
 
 use rws_board::{ReadSource, WriteSink};
