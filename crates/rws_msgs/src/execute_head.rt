@@ -131,7 +131,9 @@ impl ExecuteHead {
         })
     }
 
-    /// Appends the payload. Without a bitmap neither types nor values are written; such ones aren't read back. `Err` leaves `out` as it was.
+    /// Appends the payload. Without a bitmap neither types nor values are written. What is written isn't read back for a
+    /// number of parameters for which the bitmap or the types haven't the size, or where types or values stand without a
+    /// bitmap. `Err` leaves `out` as it was.
     #[tactic(auto, using(crate::proofs::ExecuteLemmas::execute_again))]
     pub fn encode(&self, out: &mut Vec<u8>) -> Result<(), AllocError>
         ensures ok { OnOk result (out.new.items ≡ out.old.items ++ execute_bytes self.now) }

@@ -13,8 +13,8 @@ use rws_wire::Text;
 use std::alloc::{AllocError, Global};
 
 /// Authentication Switch Request: the side that asks for a login wants an answer by another plugin, one that takes a
-/// scramble of 20 bytes with a zero byte behind it, as mysql_native_password. Other plugins' data is refused, as `Short`,
-/// `BadTag` or `Trailing`.
+/// scramble of 20 bytes with a zero byte behind it, as mysql_native_password does. Other plugins' data is refused, as
+/// `Short`, `BadTag` or `Trailing`.
 #[derive(Debug, PartialEq, Eq, Drop)]
 pub struct Switch {
     /// The plugin's name.

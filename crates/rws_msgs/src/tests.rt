@@ -38,7 +38,7 @@ const RESPONSE: [u8; 41] = [
 ];
 
 // With a database and a plugin, an answer behind one byte and no attributes.
-const SHORT_RESPONSE: [u8; 41] = [
+const PLAIN_RESPONSE: [u8; 41] = [
     0x08, 0x00, 0x08, 0x00, 0, 0, 0, 1, 45, 0, 0, 0, 0, 0, 0, 0, 0, 0, 0, 0, 0, 0, 0, 0, 0, 0, 0,
     0, 0, 0, 0, 0, b'u', 0x00, 1, 7, b'd', 0x00, b'p', b'q', 0x00,
 ];
@@ -123,7 +123,7 @@ fn cut_logins_are_short(rt: HostRuntime) {
             "greeting {n}"
         );
     }
-    for payload in [RESPONSE.as_slice(), &SHORT_RESPONSE[..38]] {
+    for payload in [RESPONSE.as_slice(), &PLAIN_RESPONSE[..38]] {
         for n in 0..payload.len() {
             assert_eq!(rt;
                 Response::decode(rt.alloc(), &payload[..n]).err(),
@@ -137,10 +137,10 @@ fn cut_logins_are_short(rt: HostRuntime) {
 #[test]
 fn a_cut_last_name_is_a_shorter_one(rt: HostRuntime) -> Result<(), Fail> {
     for (payload, plugin) in [
-        (&SHORT_RESPONSE[..38], b"".as_slice()),
-        (&SHORT_RESPONSE[..39], b"p"),
-        (&SHORT_RESPONSE[..40], b"pq"),
-        (&SHORT_RESPONSE, b"pq"),
+        (&PLAIN_RESPONSE[..38], b"".as_slice()),
+        (&PLAIN_RESPONSE[..39], b"p"),
+        (&PLAIN_RESPONSE[..40], b"pq"),
+        (&PLAIN_RESPONSE, b"pq"),
     ] {
         let response = Response::decode(rt.alloc(), payload)?;
         assert_eq!(rt;

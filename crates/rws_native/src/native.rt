@@ -63,8 +63,8 @@ pub fn answer(password: &[u8], scramble: &[u8; 20]) -> [u8; 20]
     relay(&stage1_of(password), scramble)
 }
 
-/// The first stage, where the answer proves that the client knows the password. `None` where it doesn't: it has not 20
-/// bytes, as the empty answer, or what it holds isn't the first stage of `stored`, which is `SHA1(SHA1(password))`.
+/// The first stage, where the answer proves that the client knows the password. `None` where it doesn't: its length isn't
+/// 20, as that of the empty answer, or what it holds isn't the first stage of `stored`, which is `SHA1(SHA1(password))`.
 pub fn check(answer: &[u8], scramble: &[u8; 20], stored: &[u8; 20]) -> Option<Stage1>
     ensures accepted { IsSome result
         ↔ ((length answer.now ≡ 20) × (sha1 (stage1_in answer.now scramble.now stored.now) ≡ stored.now)) }

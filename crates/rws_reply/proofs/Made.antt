@@ -12,7 +12,7 @@ use Rattle.rws_reply.specs.declared.awaits.Step.TheVariants.{Goes, Done, Failed,
 use Rattle.rws_reply.specs.Payloads.{has_more_results, eof_status, column_count, is_definition, is_row, prepared_counts}
 use Rattle.rws_reply.specs.Replies as replies
 use Rattle.rws_reply.specs.Replies.{Payload, Outcome, Accepted, Refused, AreDefinitions, AreRows, IsHead, head, IsSimple, IsQuery, IsPart, IsPrepare, IsFieldList, IsReply}
-use Rattle.rws_reply.specs.Machine.{next, given, after_result, Verdict, Whole, Begun, Neither, ends, proceed, run, defined, to_columns, to_parameters}
+use Rattle.rws_reply.specs.Machine.{next, given, after_result, Whole, ends, proceed, run, to_columns, to_parameters}
 use Rattle.rws_reply.specs.Machine as machine
 
 all_push : (P : Payload → Type 0) (ps : List Payload) (p : Payload) → AllByRecursion P ps → P p → AllByRecursion P (ps ++ p ∷ [])

@@ -11,7 +11,7 @@ use Rattle.rws_reply.specs.declared.awaits.Step.{Step}
 use Rattle.rws_reply.specs.declared.awaits.Step.TheVariants.{Goes, Done}
 use Rattle.rws_reply.specs.Payloads.{eof_status}
 use Rattle.rws_reply.specs.Replies as replies
-use Rattle.rws_reply.specs.Replies.{Payload, Outcome, Accepted, Refused, AreDefinitions, AreRows, IsHead, head, IsSimple, IsQuery, IsPart, IsPrepare, IsFieldList, IsReply}
+use Rattle.rws_reply.specs.Replies.{Payload, Outcome, Accepted, AreDefinitions, AreRows, IsHead, head, IsSimple, IsQuery, IsPart, IsPrepare, IsFieldList, IsReply}
 use Rattle.rws_reply.specs.Machine.{next, Whole, proceed, run, first, defined, to_columns, to_parameters}
 use Rattle.rws_reply.proofs.Apart.{no_ok_in_err, no_eof_in_err, no_err_in_eof, no_err_in_prepared, no_ok_in_count, no_err_in_count, no_err_in_definition, no_eof_in_definition, no_err_in_row, no_eof_in_row}
 

@@ -1,6 +1,5 @@
--- What the payloads of a reply are ("Result Set Packets" of MariaDB's protocol documentation). A payload is the list of
--- its bytes. An OK is read as between sides that have CLIENT_SESSION_TRACK; for a status without 0x4000 the layout is
--- the same between others.
+-- What the payloads of a reply are, but for OKs and ERRs, which `rws_msgs` defines ("Result Set Packets" of MariaDB's
+-- protocol documentation). A payload is the list of its bytes.
 use Rattle.std.specs.Prelude.{ℕ, suc, bit_and, Bool, false, not, ◌&&◌, ◌==◌, List, [], ◌∷◌, length, Option, Some, None, is_ok, nat_lt}
 use Rattle.std.specs.Option.{option_map}
 use Rattle.std.specs.Result.{result_ok}

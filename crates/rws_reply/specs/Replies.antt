@@ -1,6 +1,7 @@
 -- The whole replies to a command of each kind, as lists of payloads ("Result Set Packets", "COM_STMT_PREPARE" and
 -- "COM_FIELD_LIST" of MariaDB's protocol documentation), on a link with CLIENT_PROTOCOL_41 and CLIENT_SESSION_TRACK and
--- without CLIENT_DEPRECATE_EOF.
+-- without CLIENT_DEPRECATE_EOF. So an OK is read with tracking; for a status without 0x4000 its layout is the same without
+-- CLIENT_SESSION_TRACK.
 use Rattle.std.specs.Prelude.{◌≡◌, ℕ, ◌<◌, true, false, List, [], ◌∷◌, ◌++◌, length, Some}
 use Rattle.std.specs.List.{AllByRecursion}
 use Rattle.rws_msgs.specs.OkLayout.{ok_status}

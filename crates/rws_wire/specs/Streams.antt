@@ -20,7 +20,8 @@ pub data IsStream (limit : ℕ) : List ℕ → List (ℕ × List ℕ) → List �
       → first_payload limit first bytes ≡ Whole payload (number_behind first payload) behind
       → IsStream limit behind others rest → IsStream limit bytes ((first, payload) ∷ others) rest
 
--- these payloads and this rest are read exactly where the bytes are their spelling
+-- these payloads and this rest are read exactly where the bytes are the payloads' spellings and the rest, and each
+-- payload is within the limit
 abbrev pub StreamsAreRead : Type 0
 StreamsAreRead =
     (limit : ℕ) (bytes : List ℕ) (payloads : List (ℕ × List ℕ)) (rest : List ℕ) → AreBytes bytes

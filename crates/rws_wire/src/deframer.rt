@@ -12,8 +12,8 @@ use std::marker::Model;
 #[cfg(test)]
 mod tests;
 
-/// The most room that an empty buffer keeps. With that much, payloads of usual size need no memory anew. A larger one
-/// grows the buffer again, by doubling, which moves less than twice the bytes that are held then.
+// The most room that an empty buffer keeps. With that much, payloads of usual size need no memory anew. A larger one
+// grows the buffer again, by doubling, which moves less than twice the bytes that are held then.
 const KEPT_ROOM: usize = 0x10_0000;
 
 /// Takes the bytes of a stream in pieces and gives its payloads.

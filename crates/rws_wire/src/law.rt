@@ -20,7 +20,8 @@ pub fn later_bytes_change_nothing()
     ensures stream { StreamsAreKept }
 {}
 
-/// A stream's payloads are read exactly where its bytes are their spellings, one behind the other.
+/// Payloads are read one after the other exactly where each is within the limit and the bytes are their spellings, one
+/// behind the other, and then the rest.
 pub fn streams_are_read()
     ensures { StreamsAreRead }
 {}

@@ -1,4 +1,4 @@
-// What no clause says: how much memory is kept.
+// What no clause of `Deframer` says: how much room its buffer keeps, and how much a payload takes.
 
 use super::{Deframer, KEPT_ROOM};
 use crate::frame;
