@@ -1,0 +1,2 @@
+-- the built-in settings
+pub mod BuiltInLemmas
