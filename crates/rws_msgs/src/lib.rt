@@ -3,6 +3,7 @@
 #![tactic(auto)]
 
 pub mod capability;
+pub mod command;
 mod eof_msg;
 mod err_msg;
 mod execute_head;

@@ -1,0 +1,38 @@
+-- The errors that the proxy itself answers: code, SQL state and text.
+use Rattle.std.specs.Prelude.{ℕ, List, codes}
+use Rattle.rws_msgs.specs.declared.err_msg.ErrMsg.{ErrMsg}
+use Rattle.rws_record.specs.declared.proxy_error.ProxyError.{ProxyError}
+use Rattle.rws_record.specs.declared.proxy_error.ProxyError.TheVariants.{UnknownCommand, NotSupported, UnknownStatement, BadExecute, TooManyStatements, NotInReadOnly, PacketsOutOfOrder, CommandTooLarge}
+
+abbrev pub code_of : ProxyError → ℕ
+code_of UnknownCommand = 1047
+code_of NotSupported = 1235
+code_of UnknownStatement = 1243
+code_of BadExecute = 1105
+code_of TooManyStatements = 1461
+code_of NotInReadOnly = 1235
+code_of PacketsOutOfOrder = 1156
+code_of CommandTooLarge = 1153
+
+abbrev pub state_of : ProxyError → List ℕ
+state_of UnknownCommand = codes "08S01"
+state_of NotSupported = codes "42000"
+state_of UnknownStatement = codes "HY000"
+state_of BadExecute = codes "HY000"
+state_of TooManyStatements = codes "42000"
+state_of NotInReadOnly = codes "42000"
+state_of PacketsOutOfOrder = codes "08S01"
+state_of CommandTooLarge = codes "08S01"
+
+abbrev pub text_of : ProxyError → List ℕ
+text_of UnknownCommand = codes "unknown command"
+text_of NotSupported = codes "not supported"
+text_of UnknownStatement = codes "unknown statement handle"
+text_of BadExecute = codes "bad execute"
+text_of TooManyStatements = codes "too many statements"
+text_of NotInReadOnly = codes "not in a read-only transaction"
+text_of PacketsOutOfOrder = codes "packets out of order"
+text_of CommandTooLarge = codes "command too large"
+
+abbrev pub error_of : ProxyError → ErrMsg
+error_of error = record { code = code_of error; state = state_of error; text = text_of error }

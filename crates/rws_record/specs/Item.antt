@@ -1,0 +1,70 @@
+-- The record of one session: what came to it, what it took up, and what it gave out. A record is a list of these
+-- items, newest first.
+use Rattle.std.specs.Prelude.{ℕ, Bool, List, Option}
+use Rattle.rws_wire.specs.declared.close_reason.CloseReason.{CloseReason}
+use Rattle.rws_wire.specs.declared.drop_cause.DropCause.{DropCause}
+use Rattle.rws_wire.specs.declared.fault.WireFault.{WireFault}
+use Rattle.rws_reply.specs.declared.kind.Outcome.{Outcome}
+use Rattle.rws_reply.specs.declared.kind.Progress.{Progress}
+use Rattle.rws_record.specs.declared.command.Command.{Command}
+use Rattle.rws_record.specs.declared.proxy_error.ProxyError.{ProxyError}
+
+-- why something goes to a server that it is to answer
+pub data Purpose : Type 0 where
+  -- the client asked for it
+  Asks : Command → Purpose
+
+-- a payload of a reply, where it came
+pub record Part : Type 0 where
+  pub payload : List ℕ
+  -- the number that the packet behind it is to have
+  pub next : ℕ
+  -- how far it brings the reply; None where the payloads so far begin none
+  pub progress : Option Progress
+  -- the same piece holds a byte behind it
+  pub behind : Bool
+
+-- what the client is told
+pub data Tell : Type 0 where
+  -- a payload of the reply that this link gives to the command; the last one with how the reply ended
+  Passes : (link : ℕ) → Command → (payload : List ℕ) → Option Outcome → Tell
+  -- the proxy's own OK
+  Owns : (status : ℕ) → Tell
+  -- the proxy's own error
+  Refuses : ProxyError → Tell
+
+-- what the session gives out
+pub data Put : Type 0 where
+  -- to the client, in packets from this number on
+  Tells : (number : ℕ) → Tell → Put
+  -- to a server
+  Sends : (link : ℕ) → Purpose → Put
+  -- a link is given up
+  Drops : (link : ℕ) → DropCause → Put
+  -- the session is closed
+  Closes : CloseReason → Put
+
+-- what a command of the client is taken for
+pub data Judged : Type 0 where
+  Leaves : Judged
+  Pings : Judged
+  IsRefused : ProxyError → Judged
+  Serves : Command → Judged
+
+pub data Item : Type 0 where
+  -- from outside: a session begins with a link that is ready; bytes come; the client or a link is gone
+  Began : (link server : ℕ) → Item
+  ClientBytes : List ℕ → Item
+  LinkBytes : (link : ℕ) → List ℕ → Item
+  ClientGone : Item
+  LinkLost : (link : ℕ) → Item
+  -- what a link's bytes complete: a payload of the reply that is awaited there, or a fault of its packets; or bytes that
+  -- nobody awaits
+  Replies : (link : ℕ) → Part → Item
+  Garbles : (link : ℕ) → WireFault → Item
+  Strays : (link : ℕ) → Item
+  -- the session's own steps: it takes up the client's next command, whose reply begins with this number, or the fault of
+  -- the client's packets; and it gives something out
+  Takes : Judged → (number : ℕ) → Item
+  TakesFault : WireFault → Item
+  Puts : Put → Item

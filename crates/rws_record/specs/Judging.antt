@@ -1,0 +1,81 @@
+-- What a command of the client is taken for.
+use Rattle.std.specs.Prelude.{ℕ, Bool, true, false, List, Option, Some, None, if◌then◌else◌}
+use Rattle.rws_reply.specs.declared.kind.Kind.TheVariants.{Query as QueryReply, FieldList as FieldListReply}
+use Rattle.rws_record.specs.declared.proxy_error.ProxyError.{ProxyError}
+use Rattle.rws_record.specs.declared.proxy_error.ProxyError.TheVariants.{UnknownCommand, NotSupported, UnknownStatement, BadExecute, TooManyStatements, NotInReadOnly}
+use Rattle.rws_record.specs.declared.request.Request.{Request}
+use Rattle.rws_record.specs.declared.request.Request.TheVariants.{Quit, Ping, Query, FieldList, Unsupported, Unknown}
+use Rattle.rws_record.specs.Requests.{request_of}
+use Rattle.rws_record.specs.Item.{Judged}
+use Rattle.rws_record.specs.Item.Judged.{Leaves, Pings, IsRefused, Serves}
+
+-- Whether a command is refused, and with what: the first of these that fits is the answer.
+abbrev pub refusal_by : (unknown unsupported unopened cursor malformed crowded forbidden changing : Bool) → Option ProxyError
+refusal_by unknown unsupported unopened cursor malformed crowded forbidden changing =
+    -- no command has this first byte, or there is none
+    if unknown then Some UnknownCommand
+    -- a command that the proxy doesn't take
+    else (if unsupported then Some NotSupported
+    -- an execute or reset of a statement that isn't open
+    else (if unopened then Some UnknownStatement
+    -- an execute that asks for a cursor
+    else (if cursor then Some NotSupported
+    -- an execute out of its layout
+    else (if malformed then Some BadExecute
+    -- a prepare where the table of statements is full
+    else (if crowded then Some TooManyStatements
+    -- a text that sets what replication or the proxy stands on
+    else (if forbidden then Some NotSupported
+    -- a command that changes something, in a read-only transaction
+    else (if changing then Some NotInReadOnly
+    else None)))))))
+
+abbrev pub is_unknown : Request → Bool
+is_unknown Unknown = true
+is_unknown _ = false
+
+abbrev pub is_unsupported : Request → Bool
+is_unsupported Unsupported = true
+is_unsupported _ = false
+
+-- Prepared statements, the classes of texts and transactions aren't looked at yet: no command names a statement, sets
+-- what it mayn't, or stands in a read-only transaction.
+abbrev pub names_no_statement : Bool
+names_no_statement = false
+
+abbrev pub asks_for_cursor : Bool
+asks_for_cursor = false
+
+abbrev pub is_malformed : Bool
+is_malformed = false
+
+abbrev pub has_too_many_statements : Bool
+has_too_many_statements = false
+
+abbrev pub is_forbidden : Bool
+is_forbidden = false
+
+abbrev pub changes_in_read_only : Bool
+changes_in_read_only = false
+
+abbrev pub refusal_of : Request → Option ProxyError
+refusal_of request =
+    refusal_by (is_unknown request) (is_unsupported request) names_no_statement asks_for_cursor is_malformed
+    has_too_many_statements is_forbidden changes_in_read_only
+
+-- what a command is taken for that nothing refuses
+abbrev pub accepted_as : Request → List ℕ → ℕ → Judged
+accepted_as Quit payload number = Leaves
+accepted_as Ping payload number = Pings
+accepted_as Query payload number = Serves (record { payload = payload; kind = QueryReply; number = number })
+accepted_as FieldList payload number = Serves (record { payload = payload; kind = FieldListReply; number = number })
+accepted_as Unsupported payload number = IsRefused NotSupported
+accepted_as Unknown payload number = IsRefused UnknownCommand
+
+abbrev pub judged_by : Option ProxyError → Request → List ℕ → ℕ → Judged
+judged_by (Some error) request payload number = IsRefused error
+judged_by None request payload number = accepted_as request payload number
+
+-- a command of these bytes, whose reply begins with this number
+abbrev pub judged : List ℕ → ℕ → Judged
+judged payload number = judged_by (refusal_of (request_of payload)) (request_of payload) payload number

@@ -1,0 +1,10 @@
+pub mod Item
+pub mod Requests
+pub mod Judging
+pub mod Values
+pub mod Rules
+pub mod Record
+pub mod Errors
+pub mod Outputs
+pub mod Run
+pub mod Laws

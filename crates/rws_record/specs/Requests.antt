@@ -1,0 +1,22 @@
+-- Which command a payload is, by its first byte ("Text protocol", "Utility commands" and "Binary protocol (prepared
+-- statements)" of MariaDB's documentation).
+use Rattle.std.specs.Prelude.{ℕ, List, [], ◌∷◌, ◌==◌, ◌||◌, if◌then◌else◌}
+use Rattle.rws_msgs.specs.declared.command.TheConstants.{COM_QUIT, COM_QUERY, COM_FIELD_LIST, COM_PING, COM_SET_OPTION, COM_STMT_FETCH, COM_RESET_CONNECTION}
+use Rattle.rws_record.specs.declared.request.Request.{Request}
+use Rattle.rws_record.specs.declared.request.Request.TheVariants.{Quit, Ping, Query, FieldList, Unsupported, Unknown}
+
+abbrev pub request_by : ℕ → Request
+request_by code =
+    if code == COM_QUIT then Quit
+    else (if code == COM_QUERY then Query
+    else (if code == COM_FIELD_LIST then FieldList
+    else (if code == COM_PING then Ping
+    else (if code == COM_SET_OPTION then Unsupported
+    else (if code == COM_STMT_FETCH then Unsupported
+    else (if code == COM_RESET_CONNECTION then Unsupported
+    else Unknown))))))
+
+-- a payload without any byte is no command
+abbrev pub request_of : List ℕ → Request
+request_of [] = Unknown
+request_of (code ∷ arguments) = request_by code

@@ -1,0 +1,232 @@
+-- What a session does next. What is owed answers the newest item directly; all else is due, in a fixed order. A record
+-- goes on by `next` until it rests, and then by what comes from outside.
+--
+-- Rules come in two levels: a function of plain values, and one line that fills in the values of a record.
+use Rattle.std.specs.Prelude.{ℕ, Bool, true, false, not, ◌&&◌, ◌==◌, List, [], ◌∷◌, ◌++◌, map, drop, Option, Some, None, is_some, if◌then◌else◌}
+use Rattle.rws_wire.specs.Payloads.{Beginning, first_payload}
+use Rattle.rws_wire.specs.Payloads.Beginning.{Nothing, Whole, Faulty}
+use Rattle.rws_wire.specs.declared.fault.WireFault.{WireFault}
+use Rattle.rws_wire.specs.declared.fault.WireFault.TheVariants as faults
+use Rattle.rws_wire.specs.declared.close_reason.CloseReason.{CloseReason}
+use Rattle.rws_wire.specs.declared.close_reason.CloseReason.TheVariants as reasons
+use Rattle.rws_wire.specs.declared.drop_cause.DropCause.{DropCause}
+use Rattle.rws_wire.specs.declared.drop_cause.DropCause.TheVariants.{BadWire, BadReply, Unasked, End, Kept, Replay}
+use Rattle.rws_reply.specs.declared.kind.Progress.{Progress}
+use Rattle.rws_reply.specs.declared.kind.Progress.TheVariants.{More, Whole as Ends}
+use Rattle.rws_reply.specs.Tracking.{progress}
+use Rattle.rws_config.specs.declared.config.Config.{Config}
+use Rattle.rws_config.specs.declared.limits.TheConstants.{SERVER_PAYLOAD}
+use Rattle.rws_record.specs.declared.command.Command.{Command}
+use Rattle.rws_record.specs.declared.proxy_error.ProxyError.{ProxyError}
+use Rattle.rws_record.specs.declared.proxy_error.ProxyError.TheVariants.{PacketsOutOfOrder, CommandTooLarge}
+use Rattle.rws_record.specs.Item.{Item, Part, Purpose, Judged, Put}
+use Rattle.rws_record.specs.Item.Item.{Began, ClientBytes, LinkBytes, ClientGone, LinkLost, Replies, Garbles, Strays, Takes, TakesFault, Puts}
+use Rattle.rws_record.specs.Item.Judged.{Leaves, Pings, IsRefused, Serves}
+use Rattle.rws_record.specs.Item.Put.{Tells, Sends, Drops, Closes}
+use Rattle.rws_record.specs.Item.Tell.{Passes, Owns, Refuses}
+use Rattle.rws_record.specs.Item.Purpose.{Asks}
+use Rattle.rws_record.specs.Judging.{judged}
+use Rattle.rws_record.specs.Values.{held, links, contains, kept_on, Exchange, exchange, kind_of, link_held, pending, sent_on, told_from, reply_number, is_over}
+
+abbrev pub is_link : ℕ → Option ℕ → Bool
+is_link link (Some other) = other == link
+is_link link None = false
+
+-- The loss of a link
+
+-- what the loss of a link means for its session
+pub data Loss : Type 0 where
+  -- the client has a part of a reply that no other server can end
+  CutsReply : Loss
+  -- the command may have been carried out
+  HidesOutcome : Loss
+  -- the connection held what the session has set
+  TakesState : Loss
+  -- the open transaction can't be replayed
+  EndsTransaction : Loss
+  -- the open transaction is replayed elsewhere
+  StartsReplay : Loss
+  -- the pending command goes elsewhere
+  SendsElsewhere : Loss
+  -- nothing more
+  IsForgotten : Loss
+
+-- The first that fits holds. A payload of the pending reply was passed on from the link; the pending command was sent on
+-- it, and isn't one to be sent again; the session is kept on it; a transaction is open on it, which can be replayed or
+-- not; the pending command was sent, or was to be sent, on it.
+abbrev pub loss_by : (told sent again kept opened replayable assigned : Bool) → Loss
+loss_by told sent again kept opened replayable assigned =
+    if told then CutsReply
+    else (if (sent && not again) then HidesOutcome
+    else (if kept then TakesState
+    else (if (opened && not replayable) then EndsTransaction
+    else (if opened then StartsReplay
+    else (if assigned then SendsElsewhere
+    else IsForgotten)))))
+
+-- Classes of commands and transactions aren't looked at yet: each command counts as one whose effect isn't known, and no
+-- transaction as open.
+abbrev pub sends_again : Bool
+sends_again = false
+
+abbrev pub has_transaction : Bool
+has_transaction = false
+
+abbrev pub is_replayable : Bool
+is_replayable = false
+
+abbrev pub loss_of : ℕ → List Item → Loss
+loss_of link past =
+    loss_by (is_link link (told_from past)) (is_link link (sent_on past)) sends_again (is_link link (kept_on past))
+    has_transaction is_replayable (is_link link (sent_on past))
+
+-- Replays and other routes aren't built yet, and nothing leads to them: no transaction counts as open, and a session is
+-- kept on the link that it sends on.
+abbrev pub after_loss_by : Loss → List Put
+after_loss_by CutsReply = Closes reasons.ResultCut ∷ []
+after_loss_by HidesOutcome = Closes reasons.OutcomeUnknown ∷ []
+after_loss_by TakesState = Closes reasons.SessionState ∷ []
+after_loss_by EndsTransaction = []
+after_loss_by StartsReplay = []
+after_loss_by SendsElsewhere = []
+after_loss_by IsForgotten = []
+
+abbrev pub after_loss : ℕ → List Item → List Put
+after_loss link past = after_loss_by (loss_of link past)
+
+-- to give a link up is to lose it, but for those that aren't needed any more
+abbrev pub is_loss : DropCause → Bool
+is_loss End = false
+is_loss Kept = false
+is_loss Replay = false
+is_loss _ = true
+
+-- What is owed
+
+-- a session that ends gives up its links, in order of number
+abbrev pub farewells : List Item → List Put
+farewells past = map (λ link. Drops link End) (links past)
+
+-- autocommit is on, and no transaction is open
+abbrev pub own_status : ℕ
+own_status = 0x0002
+
+abbrev pub after_command : Judged → ℕ → List Put
+after_command Leaves number = Closes reasons.Quit ∷ []
+after_command Pings number = Tells number (Owns own_status) ∷ []
+after_command (IsRefused error) number = Tells number (Refuses error) ∷ []
+after_command (Serves command) number = []
+
+-- The client's packets can't be read on from here. The client is told in a packet of number 1.
+abbrev pub after_fault : WireFault → List Put
+after_fault (faults.OutOfOrder want got) =
+    Tells 1 (Refuses PacketsOutOfOrder) ∷ Closes (reasons.OutOfOrder want got) ∷ []
+after_fault (faults.TooLarge length) = Tells 1 (Refuses CommandTooLarge) ∷ Closes (reasons.TooLarge length) ∷ []
+
+abbrev pub unasked : ℕ → Bool → List Put
+unasked link true = Drops link Unasked ∷ []
+unasked link false = []
+
+-- A payload of the reply to the client's command goes to the client; behind the last one a further byte costs the link.
+-- A payload by which the reply is none costs the link too.
+abbrev pub after_answer : ℕ → Command → Part → Option Progress → (number : ℕ) → List Put
+after_answer link command part None number = Drops link BadReply ∷ []
+after_answer link command part (Some More) number = Tells number (Passes link command part.payload None) ∷ []
+after_answer link command part (Some (Ends outcome)) number =
+    Tells number (Passes link command part.payload (Some outcome)) ∷ unasked link part.behind
+
+abbrev pub after_part : ℕ → Part → Option Exchange → (number : ℕ) → List Put
+after_part link part None number = []
+after_part link part (Some e) number = after_purpose link part e.purpose number
+  where
+    after_purpose : ℕ → Part → Purpose → ℕ → List Put
+    after_purpose link part (Asks command) number = after_answer link command part part.progress number
+
+-- the answer to what came or was taken up, from the record before it
+abbrev pub response : Item → List Item → List Put
+response (Began link server) past = []
+response (ClientBytes bytes) past = []
+response (LinkBytes link bytes) past = []
+response ClientGone past = farewells past
+response (LinkLost link) past = after_loss link past
+response (Replies link part) past = after_part link part (exchange link past) (reply_number past)
+response (Garbles link fault) past = Drops link BadWire ∷ []
+response (Strays link) past = Drops link Unasked ∷ []
+response (Takes judged number) past = after_command judged number
+response (TakesFault fault) past = after_fault fault
+response (Puts put) past = []
+
+-- what follows directly on something that was given out
+abbrev pub follow : Put → List Item → List Put
+follow (Drops link cause) past = if is_loss cause then after_loss link past else []
+follow _ past = []
+
+abbrev pub owed : List Item → List Put
+owed [] = []
+owed (Puts (Closes reason) ∷ past) = farewells past
+owed (Puts put ∷ past) = follow put past ++ drop 1 (owed past)
+owed (item ∷ past) = response item past
+
+-- What is due where nothing is owed
+
+-- the pending command goes on the link that the session is kept on, where it has that link and hasn't sent it yet
+abbrev pub send_by : Option Command → (sent kept : Option ℕ) → List ℕ → Option Item
+send_by (Some command) None (Some link) links =
+    if contains link links then Some (Puts (Sends link (Asks command))) else None
+send_by _ _ _ links = None
+
+abbrev pub due_send : List Item → Option Item
+due_send past = send_by (pending past) (sent_on past) (kept_on past) (links past)
+
+abbrev pub is_some_byte : List ℕ → Bool
+is_some_byte [] = false
+is_some_byte (_ ∷ _) = true
+
+-- the part that comes next of a reply
+abbrev pub part_of : Exchange → List ℕ → ℕ → List ℕ → Part
+part_of e payload next rest =
+    record { payload = payload; next = next; progress = progress (kind_of e.purpose) e.sofar payload; behind = is_some_byte rest }
+
+abbrev pub reply_by : ℕ → Exchange → Beginning → Option Item
+reply_by link e Nothing = None
+reply_by link e (Whole payload next rest) = Some (Replies link (part_of e payload next rest))
+reply_by link e (Faulty fault) = Some (Garbles link fault)
+
+-- what a link's bytes complete
+abbrev pub arrival : ℕ → Option Exchange → List ℕ → Option Item
+arrival link (Some e) bytes = reply_by link e (first_payload SERVER_PAYLOAD e.next bytes)
+arrival link None bytes = if is_some_byte bytes then Some (Strays link) else None
+
+infixr 20 ◌or◌
+abbrev pub ◌or◌ : {A : Type 0} → Option A → Option A → Option A
+(Some item) or other = Some item
+None or other = other
+
+abbrev pub due_arrival : List ℕ → List Item → Option Item
+due_arrival [] past = None
+due_arrival (link ∷ others) past = arrival link (exchange link past) (link_held link past) or due_arrival others past
+
+abbrev pub taking : Beginning → Option Item
+taking Nothing = None
+taking (Whole payload next rest) = Some (Takes (judged payload next) next)
+taking (Faulty fault) = Some (TakesFault fault)
+
+-- what the client's bytes begin with is taken up once the command before it is answered
+abbrev pub take_by : Option Command → Beginning → Option Item
+take_by None beginning = taking beginning
+take_by (Some command) beginning = None
+
+abbrev pub due_take : Config → List Item → Option Item
+due_take config past = take_by (pending past) (first_payload config.command_bytes 0 (held config past))
+
+abbrev pub due : Config → List Item → Option Item
+due config past = due_send past or (due_arrival (links past) past or due_take config past)
+
+abbrev pub next_by : List Put → Bool → Option Item → Option Item
+next_by (put ∷ others) over due = Some (Puts put)
+next_by [] true due = None
+next_by [] false due = due
+
+-- the session's next step; None where it rests
+abbrev pub next : Config → List Item → Option Item
+next config past = next_by (owed past) (is_over past) (due config past)

@@ -1,0 +1,154 @@
+-- The run of a worker: the events that it was given, what they told its sessions, and what its sessions did, in one
+-- list, newest first.
+use Rattle.std.specs.Prelude.{◌≡◌, ℕ, ◌+◌, max, Bool, true, false, not, List, [], ◌∷◌, ◌++◌, length, drop, nat_lt, ◌==◌, ◌&&◌, Option, Some, None, if◌then◌else◌}
+use Rattle.std.specs.Option.{option_map}
+use Rattle.rws_board.specs.declared.event.Event.{Event}
+use Rattle.rws_board.specs.declared.event.Event.TheVariants as events
+use Rattle.rws_board.specs.declared.action.Action.{Action}
+use Rattle.rws_config.specs.declared.config.Config.{Config}
+use Rattle.rws_record.specs.Item.{Item}
+use Rattle.rws_record.specs.Item.Item.{Began, ClientBytes, LinkBytes, ClientGone, LinkLost, Puts}
+use Rattle.rws_record.specs.Values.{opens, links, is_over, contains}
+use Rattle.rws_record.specs.Rules.{next, ◌or◌}
+use Rattle.rws_record.specs.Outputs.{outs_of}
+
+pub data Entry : Type 0 where
+  -- an event came
+  Came : Event → Entry
+  -- the last event told a session this
+  Heard : (session : ℕ) → Item → Entry
+  -- a session went on by a step of its own
+  Did : (session : ℕ) → Item → Entry
+
+-- the record of one session
+abbrev pub record_of : ℕ → List Entry → List Item
+record_of session [] = []
+record_of session (Came event ∷ run) = record_of session run
+record_of session (Heard other item ∷ run) = if other == session then item ∷ record_of session run else record_of session run
+record_of session (Did other item ∷ run) = if other == session then item ∷ record_of session run else record_of session run
+
+-- Sessions and links
+
+-- the session began, and isn't over
+abbrev pub is_live : List Item → Bool
+is_live [] = false
+is_live (item ∷ past) = not (is_over (item ∷ past))
+
+-- the number of the session that an event is to begin, or 0
+abbrev pub begun_by : Event → ℕ
+begun_by (events.Begin session server) = session
+begun_by _ = 0
+
+-- the greatest number of a session that was to begin so far
+abbrev pub greatest : List Entry → ℕ
+greatest [] = 0
+greatest (Came event ∷ run) = max (begun_by event) (greatest run)
+greatest (_ ∷ run) = greatest run
+
+-- the session and the number of the link that an entry opens
+abbrev pub opens_for : Entry → Option (ℕ × ℕ)
+opens_for (Came event) = None
+opens_for (Heard session item) = option_map (λ opened. (session, opened.0)) (opens item)
+opens_for (Did session item) = option_map (λ opened. (session, opened.0)) (opens item)
+
+abbrev pub link_by : Option (ℕ × ℕ) → ℕ → ℕ
+link_by (Some opened) before = opened.1
+link_by None before = before
+
+-- the number of the link that was opened last; links are numbered from 1 in order of opening
+abbrev pub last_link : List Entry → ℕ
+last_link [] = 0
+last_link (entry ∷ run) = link_by (opens_for entry) (last_link run)
+
+abbrev pub owner_by : ℕ → Option (ℕ × ℕ) → Option ℕ → Option ℕ
+owner_by link (Some opened) before = if opened.1 == link then Some opened.0 else before
+owner_by link None before = before
+
+-- the session for which the link was opened
+abbrev pub owner : ℕ → List Entry → Option ℕ
+owner link [] = None
+owner link (entry ∷ run) = owner_by link (opens_for entry) (owner link run)
+
+-- What an event tells, and to whom
+
+abbrev pub if_so : {A : Type 0} → Bool → A → List A
+if_so true a = a ∷ []
+if_so false a = []
+
+-- to the session, if it goes on
+abbrev pub told_to : ℕ → Item → List Entry → List (ℕ × Item)
+told_to session item run = if_so (is_live (record_of session run)) (session, item)
+
+-- to the session for which the link was opened, if it still has the link
+abbrev pub told_on : ℕ → Item → Option ℕ → List Entry → List (ℕ × Item)
+told_on link item None run = []
+told_on link item (Some session) run =
+    if_so (is_live (record_of session run) && contains link (links (record_of session run))) (session, item)
+
+-- A session begins with a number above all before and a server of the settings; whatever names a session or a link that
+-- isn't open tells nobody anything.
+abbrev pub told_by : Config → Event → List Entry → List (ℕ × Item)
+told_by config (events.Begin session server) run =
+    if_so (nat_lt (greatest run) session && nat_lt server (length config.servers)) (session, Began (last_link run + 1) server)
+told_by config (events.ClientBytes session bytes) run = told_to session (ClientBytes bytes) run
+told_by config (events.ClientGone session) run = told_to session ClientGone run
+told_by config (events.LinkBytes link bytes) run = told_on link (LinkBytes link bytes) (owner link run) run
+told_by config (events.LinkGone link) run = told_on link (LinkLost link) (owner link run) run
+told_by config events.End run = []
+
+-- what the last event tells that wasn't heard yet
+abbrev pub untold : Config → List Entry → List (ℕ × Item)
+untold config [] = []
+untold config (Came event ∷ run) = told_by config event run
+untold config (Heard session item ∷ run) = drop 1 (untold config run)
+untold config (Did session item ∷ run) = untold config run
+
+-- the session that heard of the last event last
+abbrev pub hearer : List Entry → Option ℕ
+hearer [] = None
+hearer (Came event ∷ run) = None
+hearer (Heard session item ∷ run) = Some session
+hearer (Did session item ∷ run) = hearer run
+
+-- The run
+
+abbrev pub step_of : Config → Option ℕ → List Entry → Option Entry
+step_of config None run = None
+step_of config (Some session) run = option_map (λ item. Did session item) (next config (record_of session run))
+
+abbrev pub hearing : List (ℕ × Item) → Option Entry
+hearing [] = None
+hearing (told ∷ others) = Some (Heard told.0 told.1)
+
+-- The next entry but an event: the session that heard something goes on until it rests, and then the next one hears what
+-- it is told. None where the run rests.
+abbrev pub next_entry : Config → List Entry → Option Entry
+next_entry config run = step_of config (hearer run) run or hearing (untold config run)
+
+-- Each event comes when the run rests, and each other entry is the next one.
+pub data IsRun (config : Config) : List Entry → Type 0 where
+  starts : IsRun config []
+  came : {run : List Entry} {event : Event} → IsRun config run → next_entry config run ≡ None
+      → IsRun config (Came event ∷ run)
+  goes_on : {run : List Entry} {entry : Entry} → IsRun config run → next_entry config run ≡ Some entry
+      → IsRun config (entry ∷ run)
+
+-- What is known of a run outside
+
+-- the events of a run, oldest first
+abbrev pub events_of : List Entry → List Event
+events_of [] = []
+events_of (Came event ∷ run) = events_of run ++ event ∷ []
+events_of (_ ∷ run) = events_of run
+
+-- what is done outside in a run, oldest first
+abbrev pub done_in : List Entry → List Action
+done_in [] = []
+done_in (Did session item ∷ run) = done_in run ++ outs_of session item (record_of session run)
+done_in (_ ∷ run) = done_in run
+
+-- a run over these events that rests
+pub record IsRunOver (config : Config) (events : List Event) (run : List Entry) : Type 0 where
+  pub legal : IsRun config run
+  pub rests : next_entry config run ≡ None
+  pub heard : events_of run ≡ events

@@ -1,0 +1,51 @@
+//! Which command a payload of a client is ("Text protocol" and "Utility commands" of the protocol).
+ghost use Rattle.std.specs.Prelude.{◌≡◌};
+ghost use Rattle.rws_record.specs.Requests.{request_by, request_of};
+
+use rws_msgs::command::{
+    COM_FIELD_LIST, COM_PING, COM_QUERY, COM_QUIT, COM_RESET_CONNECTION, COM_SET_OPTION,
+    COM_STMT_FETCH,
+};
+
+/// A command by its first byte.
+#[derive(Clone, Copy, Debug, PartialEq, Eq)]
+pub enum Request {
+    /// COM_QUIT
+    Quit,
+    /// COM_PING
+    Ping,
+    /// COM_QUERY
+    Query,
+    /// COM_FIELD_LIST
+    FieldList,
+    /// A command that the proxy knows and doesn't take: COM_SET_OPTION, COM_STMT_FETCH, COM_RESET_CONNECTION.
+    Unsupported,
+    /// No byte, or any other.
+    Unknown,
+}
+
+impl Request {
+    /// The command that a payload is. What follows its first byte isn't looked at.
+    pub fn of(payload: &[u8]) -> Request
+        ensures { result ≡ request_of payload.now }
+    {
+        match payload {
+            [code, ..] => Request::with_code(*code),
+            [] => Request::Unknown,
+        }
+    }
+
+    /// The command whose first byte this is.
+    fn with_code(code: u8) -> Request
+        ensures { result ≡ request_by code }
+    {
+        match code {
+            COM_QUIT => Request::Quit,
+            COM_QUERY => Request::Query,
+            COM_FIELD_LIST => Request::FieldList,
+            COM_PING => Request::Ping,
+            COM_SET_OPTION | COM_STMT_FETCH | COM_RESET_CONNECTION => Request::Unsupported,
+            _ => Request::Unknown,
+        }
+    }
+}
