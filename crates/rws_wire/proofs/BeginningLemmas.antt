@@ -12,7 +12,7 @@ use Rattle.rws_wire.specs.Payloads.{packet_with, packet_of, Beginning, Nothing, 
 use Rattle.rws_wire.specs.Beginnings.{full_packets, due, Leads, Begins, whole, other_number, too_large, short_header, short_packet, BeginningsAreRead}
 use Rattle.rws_wire.proofs.NumberLemmas.{AreBytes-drop, number_of-bytes_of, number_of-lt, bytes_of-number_of}
 use Rattle.rws_wire.proofs.PacketLemmas as at
-use Rattle.rws_wire.proofs.PacketLemmas.{Read, read_with, three_fit, with_too_large, with_partial, with_last}
+use Rattle.rws_wire.proofs.PacketLemmas.{TellsRest, tells_rest, three_fit, with_too_large, with_partial, with_last}
 use Rattle.rws_wire.proofs.PayloadLemmas.{behind_bad, behind_last, behind_partial, first_payload-is, first_payload-spelling, first_payload_spelled, full_read}
 
 -- ---- full packets
@@ -179,7 +179,7 @@ leads_on limit first full announced bytes rest low l within long same =
 
 begun_at : (limit first full announced : ℕ) (bytes rest : List ℕ) (p : Packet) → AreBytes bytes → first < 256 → announced < 2 ^ 24
     → Leads limit first full bytes (header announced (due first full) ++ rest)
-    → Read limit (full * full_packet) announced rest p
+    → TellsRest limit (full * full_packet) announced rest p
     → (Leads limit first (suc full) bytes (drop announced rest) → Begun limit first bytes) → Begun limit first bytes
 begun_at limit first full announced bytes rest p fit low small l (at.too_large above) further =
     record { beginning = Faulty (TooLarge (full * full_packet + announced)); begins = too_large full announced rest l small above }
@@ -209,7 +209,7 @@ begun (suc f) limit first full bytes (a ∷ b ∷ c ∷ got ∷ rest) fit low fi
       | inl same ↦
           begun_at limit first full announced bytes rest (packet_with limit (full * full_packet) announced rest) fit low small
           (leads_to limit first full bytes (header announced got ++ rest) (header announced (due first full) ++ rest) (ap (λ (n : ℕ). header announced n ++ rest) same) found)
-          (read_with limit (full * full_packet) announced rest)
+          (tells_rest limit (full * full_packet) announced rest)
           (λ next. begun f limit first (suc full) bytes (drop announced rest) fit low
           (AreBytes-drop announced rest (λ i. fits (suc (suc (suc (suc i)))))) (omega (arith, length-drop announced rest)) next)
       | inr other ↦ record { beginning = Faulty (OutOfOrder (due first full) got); begins = other_number full announced got rest found other }

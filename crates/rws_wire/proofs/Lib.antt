@@ -1,9 +1,12 @@
+-- numbers and length-encoded integers
 pub mod NumberLemmas
 pub mod LenencLemmas
+-- one packet, then one payload, read and written
 pub mod PacketLemmas
 pub mod PayloadLemmas
 pub mod FramingLemmas
 pub mod GatheringLemmas
 pub mod DeframerLemmas
+-- what bytes begin with, and whole streams
 pub mod BeginningLemmas
 pub mod StreamLemmas

@@ -26,14 +26,14 @@ pub with_last : (limit before announced : ℕ) (rest : List ℕ) → before + an
 with_last limit before announced rest within long other = rw (le-ltb limit (before + announced) within, le-ltb (length rest) announced long, ne_eqb announced full_packet other) refl
 
 -- what a packet says of the bytes behind the header
-pub data Read (limit before announced : ℕ) (rest : List ℕ) : Packet → Type 0 where
-  too_large : limit < before + announced → Read limit before announced rest (Bad (TooLarge (before + announced)))
-  partial : before + announced ≤ limit → length rest < announced → Read limit before announced rest Partial
-  full : before + announced ≤ limit → announced ≤ length rest → announced ≡ full_packet → Read limit before announced rest (More announced)
-  last : before + announced ≤ limit → announced ≤ length rest → announced ≢ full_packet → Read limit before announced rest (Last announced)
+pub data TellsRest (limit before announced : ℕ) (rest : List ℕ) : Packet → Type 0 where
+  too_large : limit < before + announced → TellsRest limit before announced rest (Bad (TooLarge (before + announced)))
+  partial : before + announced ≤ limit → length rest < announced → TellsRest limit before announced rest Partial
+  full : before + announced ≤ limit → announced ≤ length rest → announced ≡ full_packet → TellsRest limit before announced rest (More announced)
+  last : before + announced ≤ limit → announced ≤ length rest → announced ≢ full_packet → TellsRest limit before announced rest (Last announced)
 
-pub read_with : (limit before announced : ℕ) (rest : List ℕ) → Read limit before announced rest (packet_with limit before announced rest)
-read_with limit before announced rest =
+pub tells_rest : (limit before announced : ℕ) (rest : List ℕ) → TellsRest limit before announced rest (packet_with limit before announced rest)
+tells_rest limit before announced rest =
     elim (cases_lt limit (before + announced)) [
       | inl above ↦ rw (with_too_large limit before announced rest above) (too_large above)
       | inr within ↦ elim (cases_lt (length rest) announced) [
@@ -110,31 +110,31 @@ packet_front number announced a b c rest e long = record {
 }
 
 -- what the answer on a packet says of the bytes
-pub data Begins (limit number before : ℕ) (bytes : List ℕ) : Packet → Type 0 where
-  nothing : Begins limit number before bytes Partial
-  bad : (fault : WireFault) → Begins limit number before bytes (Bad fault)
-  goes_on : (size : ℕ) → Front number size bytes → before + size ≤ limit → size ≡ full_packet → Begins limit number before bytes (More size)
-  ends : (size : ℕ) → Front number size bytes → before + size ≤ limit → size ≢ full_packet → Begins limit number before bytes (Last size)
+pub data TellsFront (limit number before : ℕ) (bytes : List ℕ) : Packet → Type 0 where
+  nothing : TellsFront limit number before bytes Partial
+  bad : (fault : WireFault) → TellsFront limit number before bytes (Bad fault)
+  goes_on : (size : ℕ) → Front number size bytes → before + size ≤ limit → size ≡ full_packet → TellsFront limit number before bytes (More size)
+  ends : (size : ℕ) → Front number size bytes → before + size ≤ limit → size ≢ full_packet → TellsFront limit number before bytes (Last size)
 
-begins_with : (limit number before announced a b c : ℕ) (rest : List ℕ) (p : Packet) → number_of (a ∷ b ∷ c ∷ []) ≡ announced
-    → Read limit before announced rest p → Begins limit number before (a ∷ b ∷ c ∷ number ∷ rest) p
-begins_with limit number before announced a b c rest p e (too_large above) = bad (TooLarge (before + announced))
-begins_with limit number before announced a b c rest p e (partial within short) = nothing
-begins_with limit number before announced a b c rest p e (full within long same) =
+tells_front_with : (limit number before announced a b c : ℕ) (rest : List ℕ) (p : Packet) → number_of (a ∷ b ∷ c ∷ []) ≡ announced
+    → TellsRest limit before announced rest p → TellsFront limit number before (a ∷ b ∷ c ∷ number ∷ rest) p
+tells_front_with limit number before announced a b c rest p e (too_large above) = bad (TooLarge (before + announced))
+tells_front_with limit number before announced a b c rest p e (partial within short) = nothing
+tells_front_with limit number before announced a b c rest p e (full within long same) =
     goes_on announced (packet_front number announced a b c rest e long) within same
-begins_with limit number before announced a b c rest p e (last within long other) =
+tells_front_with limit number before announced a b c rest p e (last within long other) =
     ends announced (packet_front number announced a b c rest e long) within other
 
-pub begins : (limit number before : ℕ) (bytes : List ℕ) → Begins limit number before bytes (packet_of limit number before bytes)
-begins limit number before [] = nothing
-begins limit number before (a ∷ []) = nothing
-begins limit number before (a ∷ b ∷ []) = nothing
-begins limit number before (a ∷ b ∷ c ∷ []) = nothing
-begins limit number before (a ∷ b ∷ c ∷ got ∷ rest) =
+pub tells_front : (limit number before : ℕ) (bytes : List ℕ) → TellsFront limit number before bytes (packet_of limit number before bytes)
+tells_front limit number before [] = nothing
+tells_front limit number before (a ∷ []) = nothing
+tells_front limit number before (a ∷ b ∷ []) = nothing
+tells_front limit number before (a ∷ b ∷ c ∷ []) = nothing
+tells_front limit number before (a ∷ b ∷ c ∷ got ∷ rest) =
     elim (cases_eq got number) [
       | inl same ↦
           let announced = number_of (a ∷ b ∷ c ∷ []) in
-          let read = begins_with limit number before announced a b c rest (packet_with limit before announced rest) refl (read_with limit before announced rest) in
-          rw (eq-eqb got number same) (subst (λ (n : ℕ). Begins limit number before (a ∷ b ∷ c ∷ n ∷ rest) (packet_with limit before announced rest)) (sym same) read)
+          let read = tells_front_with limit number before announced a b c rest (packet_with limit before announced rest) refl (tells_rest limit before announced rest) in
+          rw (eq-eqb got number same) (subst (λ (n : ℕ). TellsFront limit number before (a ∷ b ∷ c ∷ n ∷ rest) (packet_with limit before announced rest)) (sym same) read)
       | inr other ↦ rw (ne_eqb got number other) (bad (OutOfOrder number got))
     ]

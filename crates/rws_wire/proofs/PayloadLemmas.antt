@@ -11,7 +11,7 @@ use Rattle.rws_wire.specs.Numbers.{AreBytes}
 use Rattle.rws_wire.specs.Packets.{full_packet, packet, packets, next_number, spelling, number_behind}
 use Rattle.rws_wire.specs.Payloads.{packet_of, Beginning, Nothing, Whole, Faulty, continued, gathered, payload_behind, first_payload}
 use Rattle.rws_wire.proofs.NumberLemmas.{AreBytes-drop}
-use Rattle.rws_wire.proofs.PacketLemmas.{Begins, nothing, bad, goes_on, ends, begins, with_full, with_last, packet_of-append, packet_of-packet, Front}
+use Rattle.rws_wire.proofs.PacketLemmas.{TellsFront, nothing, bad, goes_on, ends, tells_front, with_full, with_last, packet_of-append, packet_of-packet, Front}
 
 -- ---- packet by packet
 
@@ -70,23 +70,23 @@ pub behind_last : (limit number : ℕ) (before bytes : List ℕ) (size : ℕ) �
 behind_last limit number before bytes size e = payload_behind-step limit number before bytes ∙ ap (continued (payload_behind limit (next_number number)) number before bytes) e
 
 -- a packet that is there has its bytes
-more_whole : (limit number before : ℕ) (bytes : List ℕ) (size : ℕ) (p : Packet) → Begins limit number before bytes p → p ≡ More size → 4 + size ≤ length bytes
+more_whole : (limit number before : ℕ) (bytes : List ℕ) (size : ℕ) (p : Packet) → TellsFront limit number before bytes p → p ≡ More size → 4 + size ≤ length bytes
 more_whole limit number before bytes size p nothing e = absurd cc
 more_whole limit number before bytes size p (bad fault) e = absurd cc
 more_whole limit number before bytes size p (goes_on n front within same) e = let is : n ≡ size = cc in rw (← is) front.whole
 more_whole limit number before bytes size p (ends n front within other) e = absurd cc
 
-last_whole : (limit number before : ℕ) (bytes : List ℕ) (size : ℕ) (p : Packet) → Begins limit number before bytes p → p ≡ Last size → 4 + size ≤ length bytes
+last_whole : (limit number before : ℕ) (bytes : List ℕ) (size : ℕ) (p : Packet) → TellsFront limit number before bytes p → p ≡ Last size → 4 + size ≤ length bytes
 last_whole limit number before bytes size p nothing e = absurd cc
 last_whole limit number before bytes size p (bad fault) e = absurd cc
 last_whole limit number before bytes size p (goes_on n front within same) e = absurd cc
 last_whole limit number before bytes size p (ends n front within other) e = let is : n ≡ size = cc in rw (← is) front.whole
 
 pub more_fits : (limit number before : ℕ) (bytes : List ℕ) (size : ℕ) → packet_of limit number before bytes ≡ More size → 4 + size ≤ length bytes
-more_fits limit number before bytes size e = more_whole limit number before bytes size (packet_of limit number before bytes) (begins limit number before bytes) e
+more_fits limit number before bytes size e = more_whole limit number before bytes size (packet_of limit number before bytes) (tells_front limit number before bytes) e
 
 pub last_fits : (limit number before : ℕ) (bytes : List ℕ) (size : ℕ) → packet_of limit number before bytes ≡ Last size → 4 + size ≤ length bytes
-last_fits limit number before bytes size e = last_whole limit number before bytes size (packet_of limit number before bytes) (begins limit number before bytes) e
+last_fits limit number before bytes size e = last_whole limit number before bytes size (packet_of limit number before bytes) (tells_front limit number before bytes) e
 
 -- ---- bytes behind it change nothing
 
@@ -105,7 +105,7 @@ take-drop-append size bytes more long =
     ap (take size) (drop-append-le 4 bytes more (omega arith)) ∙ take-append-le size (drop 4 bytes) more (omega (arith, length-drop 4 bytes))
 
 continued-append : (p : Packet) (one other : List ℕ → List ℕ → Beginning) (limit number : ℕ) (before bytes more : List ℕ)
-    → Begins limit number (length before) bytes p → p ≢ Partial
+    → TellsFront limit number (length before) bytes p → p ≢ Partial
     → ((chunk rest : List ℕ) → other chunk (rest ++ more) ≡ followed_by more (one chunk rest) ⊎ (one chunk rest ≡ Nothing))
     → (continued other number before (bytes ++ more) p ≡ followed_by more (continued one number before bytes p)) ⊎ (continued one number before bytes p ≡ Nothing)
 continued-append p one other limit number before bytes more nothing whole step = absurd (whole refl)
@@ -134,7 +134,7 @@ gathered-append (suc f) limit number before bytes more =
       | inl is ↦ inr (ap (continued one number before bytes) is)
       | inr whole ↦
           rw (payload_behind-step limit number before (bytes ++ more), packet_of-append limit number (length before) bytes more whole)
-          (continued-append p one other limit number before bytes more (begins limit number (length before) bytes) whole
+          (continued-append p one other limit number before bytes more (tells_front limit number (length before) bytes) whole
           (λ chunk rest. gathered-append f limit (next_number number) chunk rest more))
     ]
 
@@ -293,7 +293,7 @@ more_spelled limit number before bytes size payload next rest fit front same s =
     }
 
 continued_spelled : (p : Packet) (one : List ℕ → List ℕ → Beginning) (limit number : ℕ) (before bytes payload : List ℕ) (next : ℕ) (rest : List ℕ)
-    → AreBytes bytes → Begins limit number (length before) bytes p
+    → AreBytes bytes → TellsFront limit number (length before) bytes p
     → ((chunk behind : List ℕ) → AreBytes behind → one chunk behind ≡ Whole payload next rest → Spelled limit (next_number number) chunk behind payload next rest)
     → continued one number before bytes p ≡ Whole payload next rest
     → Spelled limit number before bytes payload next rest
@@ -314,7 +314,7 @@ gathered_spelled : (f limit number : ℕ) (before bytes payload : List ℕ) (nex
 gathered_spelled zero limit number before bytes payload next rest fit e = absurd cc
 gathered_spelled (suc f) limit number before bytes payload next rest fit e =
     continued_spelled (packet_of limit number (length before) bytes) (gathered f limit (next_number number)) limit number before bytes payload next rest fit
-    (begins limit number (length before) bytes)
+    (tells_front limit number (length before) bytes)
     (λ chunk behind fits h. gathered_spelled f limit (next_number number) chunk behind payload next rest fits h) e
 
 -- what was read: its spelling stands in front of the rest

@@ -1,7 +1,8 @@
--- What a `Deframer` holds, and what it answers.
+-- What a `Deframer` holds, and what it hands out next.
 use Rattle.std.specs.Prelude.{◌≡◌, ℕ, List, Option, Some, None, Result, Ok, Err}
+use Rattle.rws_wire.specs.declared.fault.NextError.{NextError}
+use Rattle.rws_wire.specs.declared.fault.NextError.TheVariants.{Fault, OutOfMemory}
 use Rattle.rws_wire.specs.declared.fault.WireFault.{WireFault}
-use Rattle.rws_wire.specs.declared.fault.WireFault.TheVariants.{OutOfOrder, TooLarge, OutOfMemory}
 use Rattle.rws_wire.specs.declared.payload.Payload.{Payload}
 use Rattle.rws_wire.specs.Payloads.{Beginning, Nothing, Whole, Faulty, first_payload}
 
@@ -25,14 +26,14 @@ IsWhole (Whole payload next rest) = Unit {0}
 IsWhole Nothing = ⊥
 IsWhole (Faulty fault) = ⊥
 
--- The answer of `next_payload`, and what stands after it. A payload's bytes are held no longer; a fault stays;
--- nothing else changes. Memory is wanted for a whole payload alone.
-abbrev pub Answers : Deframing → ℕ → Result (Option Payload) WireFault → Deframing → Type 0
-Answers old first (Ok (Some payload)) new =
+-- What is handed out where the next packet is to have the number `first`, and what is held from then on.
+abbrev pub HandsOut : Deframing → ℕ → Result (Option Payload) NextError → Deframing → Type 0
+-- the next whole payload, whose bytes are held no longer
+HandsOut old first (Ok (Some payload)) new =
     (next_of old first ≡ Whole payload.bytes payload.next new.held) × (new ≡ record old { held = new.held })
-Answers old first (Ok None) new = (next_of old first ≡ Nothing) × (new ≡ old)
-Answers old first (Err OutOfMemory) new = IsWhole (next_of old first) × (new ≡ old)
-Answers old first (Err (OutOfOrder want got)) new =
-    (next_of old first ≡ Faulty (OutOfOrder want got)) × (new ≡ record old { stopped = Some (OutOfOrder want got) })
-Answers old first (Err (TooLarge length)) new =
-    (next_of old first ≡ Faulty (TooLarge length)) × (new ≡ record old { stopped = Some (TooLarge length) })
+-- nothing, as no payload is whole and no fault shows
+HandsOut old first (Ok None) new = (next_of old first ≡ Nothing) × (new ≡ old)
+-- the stream's fault, which stays for good
+HandsOut old first (Err (Fault fault)) new = (next_of old first ≡ Faulty fault) × (new ≡ record old { stopped = Some fault })
+-- nothing, as memory is wanted for a payload that is whole, and is held as before
+HandsOut old first (Err OutOfMemory) new = IsWhole (next_of old first) × (new ≡ old)

@@ -1,4 +1,4 @@
-// Why the proxy closes a session.
+//! Why the proxy closes a session.
 
 /// Why a session was closed. Numbers that decided it are kept beside the reason.
 #[derive(Clone, Copy, Debug, PartialEq, Eq)]

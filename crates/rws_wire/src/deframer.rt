@@ -1,19 +1,21 @@
-// Payloads out of bytes that come in pieces.
-ghost use Rattle.std.specs.Prelude.{◌≡◌, ◌≤◌, ◌++◌, List, ℕ, [], length, None, OnOk, OnErr, IfOk, IfSome};
+//! Payloads out of bytes that come in pieces.
+//!
+//! A [`Deframer`] holds exactly the bytes that were fed and not handed out, whatever its buffer keeps in front of them.
+ghost use Rattle.std.specs.Prelude.{◌≡◌, ◌≤◌, ◌*◌, ◌++◌, List, ℕ, [], length, max, None, OnOk, OnErr, IfOk, IfSome};
 ghost use Rattle.std.specs.Vec.{vec_capacity};
-ghost use Rattle.rws_wire.specs.Deframing.{Answers};
+ghost use Rattle.rws_wire.specs.Deframing.{HandsOut};
 ghost use Rattle.rws_wire.specs.Gathering.{IsSpelled};
 
 use crate::gathering::{Look, gather, look_at};
-use crate::{Payload, WireFault};
+use crate::{NextError, Payload, WireFault};
 use std::alloc::{AllocError, Global};
+use std::fmt;
 use std::marker::Model;
 
 #[cfg(test)]
 mod tests;
 
-// The most room that an empty buffer keeps. With that much, payloads of usual size need no memory anew. A larger one
-// grows the buffer again, by doubling, which moves less than twice the bytes that are held then.
+/// The room that an emptied buffer may keep in any case, so that payloads of usual size need no memory anew.
 const KEPT_ROOM: usize = 0x10_0000;
 
 /// Takes the bytes of a stream in pieces and gives its payloads.
@@ -24,9 +26,12 @@ const KEPT_ROOM: usize = 0x10_0000;
 /// however they are cut into pieces.
 ///
 /// After a piece the buffer has at most as many handed-out bytes as there were others before it. Its room grows by
-/// doubling, and is kept while bytes are left; as soon as all are handed out it is emptied, and room of more than 1 MiB
-/// is given back. A payload has room for its bytes and no more.
-#[derive(Debug, Drop)]
+/// doubling, and is kept while bytes are left. As soon as all are handed out, room of more than 1 MiB and of more than
+/// four times the last payload is given back: large payloads that follow one another need no memory anew, and the first
+/// small one behind them frees what they took. A payload has room for its bytes and no more.
+///
+/// Its `Debug` prints how many bytes are held, never the bytes, which may be a password's.
+#[derive(Drop)]
 pub struct Deframer {
     alloc: Global,
     limit: u64,
@@ -36,15 +41,14 @@ pub struct Deframer {
 }
 
 impl Model for Deframer {
-    ghost use Rattle.std.specs.Prelude.{◌≤◌, ◌≢◌, Some, drop, length};
-    ghost use Rattle.rws_wire.specs.declared.fault.WireFault.TheVariants.{OutOfMemory};
+    ghost use Rattle.std.specs.Prelude.{◌≤◌, drop, length};
     ghost use Rattle.rws_wire.specs.Deframing.{Deframing};
 
     ghost Value = { Deframing };
 
     ghost view = { λ d. record { limit = d.limit; held = drop d.start d.bytes.items; stopped = d.stopped } };
 
-    ghost invariant = { λ d. (d.start ≤ length d.bytes.items) × (d.stopped ≢ Some OutOfMemory) };
+    ghost invariant = { λ d. d.start ≤ length d.bytes.items };
 }
 
 impl Deframer {
@@ -81,21 +85,22 @@ impl Deframer {
     /// they begin with no whole payload and no fault. A fault shows at the fourth byte of a header: a wrong number
     /// first, then a length that lifts the payload above the limit. After a fault every call answers it again, whatever
     /// its number. Only a whole payload takes memory; where memory runs out the payload stays, and can be asked for again.
-    pub fn next_payload(&mut self, first: u8) -> Result<Option<Payload>, WireFault>
-        ensures answer { Answers self.old first result self.new }
+    pub fn next_payload(&mut self, first: u8) -> Result<Option<Payload>, NextError>
+        ensures hands_out { HandsOut self.old first result self.new }
 
         // The bytes of a payload that was given are its one spelling, and it is within the limit.
         ensures spelled { IfOk result (λ found. IfSome found (IsSpelled self.old.limit self.old.held first self.new.held)) }
     {
         match self.stopped {
-            Some(fault) => Err(fault),
+            Some(fault) => Err(NextError::Fault(fault)),
             None => self.read_payload(first),
         }
     }
 
-    fn read_payload(&mut self, first: u8) -> Result<Option<Payload>, WireFault>
+    /// The same before a fault was answered.
+    fn read_payload(&mut self, first: u8) -> Result<Option<Payload>, NextError>
         requires { self.old.stopped ≡ None }
-        ensures answer { Answers self.old first result self.new }
+        ensures hands_out { HandsOut self.old first result self.new }
         ensures spelled { IfOk result (λ found. IfSome found (IsSpelled self.old.limit self.old.held first self.new.held)) }
     {
         let held = &self.bytes[self.start..];
@@ -103,18 +108,18 @@ impl Deframer {
             Look::Partial => Ok(None),
             Look::Bad(fault) => {
                 self.stopped = Some(fault);
-                Err(fault)
+                Err(NextError::Fault(fault))
             }
             Look::Whole(size) => {
                 let (payload, behind) = gather(self.alloc, held, first, self.limit, size)?;
                 self.start = self.bytes.len() - behind.len();
-                self.give_back();
+                self.give_back(size);
                 Ok(Some(payload))
             }
         }
     }
 
-    // Cuts off what was handed out, where that is more than what is left.
+    /// Cuts off what was handed out, where that is more than what is left.
     fn compact(&mut self)
         ensures { self.new ≡ self.old }
     {
@@ -126,24 +131,35 @@ impl Deframer {
         }
     }
 
-    // Empties the buffer where nothing is left in it.
-    fn give_back(&mut self)
+    /// Empties the buffer where nothing is left in it behind a payload of `size` bytes.
+    fn give_back(&mut self, size: usize)
         ensures { self.new ≡ self.old }
     {
         if self.start == self.bytes.len() {
-            empty(&mut self.bytes);
+            empty(&mut self.bytes, size);
             self.start = 0;
         }
     }
 }
 
-// Takes all bytes out, and gives back the room of a buffer that has grown large.
-fn empty(bytes: &mut Vec<u8>)
+impl fmt::Debug for Deframer {
+    fn fmt<W: fmt::Write>(&self, f: &mut fmt::Formatter<W>) -> fmt::Result {
+        f.debug_struct("Deframer")
+            .field("limit", &self.limit)
+            .field("held", &self.held())
+            .field("stopped", &self.stopped)
+            .finish()
+    }
+}
+
+/// Takes all bytes out behind a payload of `size` bytes, and gives back the room of a buffer that is larger than
+/// payloads of that size need.
+fn empty(bytes: &mut Vec<u8>, size: usize)
     ensures items { bytes.new.items ≡ [] }
-    ensures room { vec_capacity bytes.new ≤ KEPT_ROOM }
+    ensures room { vec_capacity bytes.new ≤ max KEPT_ROOM (4 * size) }
 {
     bytes.clear();
-    if bytes.capacity() > KEPT_ROOM {
+    if bytes.capacity() > KEPT_ROOM.max(size.saturating_mul(4)) {
         bytes.shrink_to_fit();
     }
 }

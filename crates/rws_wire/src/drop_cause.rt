@@ -1,4 +1,4 @@
-// Why the proxy gives up a link to a server.
+//! Why the proxy gives up a link to a server.
 
 /// Why a link was dropped by the proxy. A link that its server closed has no cause.
 #[derive(Clone, Copy, Debug, PartialEq, Eq)]

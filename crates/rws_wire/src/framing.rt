@@ -1,4 +1,4 @@
-// Payloads written as packets.
+//! Payloads written as packets ("Standard packet"): what is behind the bytes so far is always the packets of what is left.
 ghost use Rattle.std.specs.Prelude.{◌≡◌, ◌++◌, List, ℕ, ◌≤◌, ◌<◌, ◌^◌, drop, length, take, OnOk, OnErr, IfOk, MatchOption};
 ghost use Rattle.rws_wire.specs.Packets.{full_packet, number_behind, packet, spelling};
 ghost use Rattle.rws_wire.specs.Payloads.{Whole, first_payload};
@@ -25,6 +25,7 @@ pub fn frame(payload: &[u8], first: u8, out: &mut Vec<u8>) -> Result<u8, AllocEr
     framed
 }
 
+/// The same, but where it fails some packets may be left behind the bytes that were there.
 fn put_packets(payload: &[u8], first: u8, out: &mut Vec<u8>) -> Result<u8, AllocError>
     ensures ok { OnOk result (out.new.items ≡ out.old.items ++ spelling first payload.now) }
     ensures next { IfOk result (λ next. next ≡ number_behind first payload.now) }
@@ -41,7 +42,7 @@ fn put_packets(payload: &[u8], first: u8, out: &mut Vec<u8>) -> Result<u8, Alloc
     Ok(number.wrapping_add(1))
 }
 
-// The bytes of a full packet at the front, and the rest.
+/// The bytes of a full packet at the front, and the rest.
 #[tactic(auto, unfolding(crate::specs::Packets::full_packet))]
 fn split_full(payload: &[u8]) -> Option<(&[u8], &[u8])>
     ensures { MatchOption result (length payload.now < full_packet)
@@ -53,6 +54,7 @@ fn split_full(payload: &[u8]) -> Option<(&[u8], &[u8])>
     Some(payload.split_at(FULL_PACKET))
 }
 
+/// Appends one packet: its header, then the bytes.
 fn put_packet(bytes: &[u8], number: u8, out: &mut Vec<u8>) -> Result<(), AllocError>
     requires { length bytes.now < 2 ^ 24 }
     ensures ok { OnOk result (out.new.items ≡ out.old.items ++ packet number bytes.now) }

@@ -1,4 +1,5 @@
-// Payloads read from packets.
+//! Payloads read from packets: a loop that looks at headers alone, and one that copies what they announce. What is read
+//! behind the bytes so far is always what all bytes begin with.
 ghost use Rattle.std.specs.Prelude.{◌≡◌, ◌+◌, ◌<◌, ◌≤◌, ◌^◌, drop, length, take, IfOk};
 ghost use Rattle.rws_wire.specs.Payloads.{Whole, first_payload};
 ghost use Rattle.rws_wire.specs.Gathering.{IsSpelled, look_of};
@@ -8,7 +9,7 @@ use crate::packet::{HEADER_LEN, Packet, packet_of};
 use crate::{Payload, Text, WireFault};
 use std::alloc::{AllocError, Global};
 
-// The bytes of a packet at the front, behind its header, and the bytes behind the packet.
+/// The bytes of a packet at the front, behind its header, and the bytes behind the packet.
 fn split_packet(bytes: &[u8], size: usize) -> (&[u8], &[u8])
     requires { 4 + size ≤ length bytes.now }
     ensures chunk { result.0.now ≡ take size (drop 4 bytes.now) }
@@ -28,8 +29,8 @@ pub enum Look {
     Bad(WireFault),
 }
 
-// What the bytes begin with. It reads headers alone, so that asking again for a payload that comes in many pieces
-// costs little, and that nothing is copied before the payload is whole.
+/// What the bytes begin with. It reads headers alone, so that asking again for a payload that comes in many pieces
+/// costs little, and that nothing is copied before the payload is whole.
 pub fn look_at(bytes: &[u8], first: u8, limit: u64) -> Look
     requires { length bytes.now < 2 ^ 63 }
     ensures { result ≡ look_of (first_payload limit first bytes.now) }
@@ -51,8 +52,8 @@ pub fn look_at(bytes: &[u8], first: u8, limit: u64) -> Look
     }
 }
 
-// The whole payload that the bytes begin with, of `total` bytes, and the bytes behind it. It takes room for that
-// many bytes and no more, as its owner may keep it for long.
+/// The whole payload that the bytes begin with, of `total` bytes, and the bytes behind it. It takes room for that
+/// many bytes and no more, as its owner may keep it for long.
 pub fn gather(
     alloc: Global,
     bytes: &[u8],

@@ -1,4 +1,4 @@
-// Laws on what bytes begin with and on whole streams. The functions compute nothing: their contracts are the theorems.
+//! Laws on what bytes begin with and on whole streams. The functions compute nothing: their contracts are the theorems.
 ghost use Rattle.std.specs.Prelude.{◌≡◌, ◌++◌, ℕ, List};
 ghost use Rattle.rws_wire.specs.Beginnings.{BeginningsAreRead};
 ghost use Rattle.rws_wire.specs.Payloads.{Whole, Faulty, first_payload};

@@ -1,4 +1,4 @@
-// Length-encoded integers.
+//! Length-encoded integers ("Protocol Data Types"), read from the front or at a place, and written as short as can be.
 ghost use Rattle.std.specs.Prelude.{◌≡◌, ◌≤◌, ◌+◌, ◌++◌, List, ℕ, drop, length, IfOk, OnOk, OnErr};
 ghost use Rattle.rws_wire.specs.Lenenc.{Integer, integer_at, lenenc, lenenc_bytes};
 ghost use Rattle.rws_wire.specs.LenencRead.{Splits};
@@ -60,6 +60,7 @@ pub fn put_lenenc(value: u64, out: &mut Vec<u8>) -> Result<(), AllocError>
     put_shortest(value, out)
 }
 
+/// The spelling alone, without what is said of reading it.
 #[tactic(auto, unfolding(crate::specs::Lenenc::lenenc_bytes))]
 fn put_shortest(value: u64, out: &mut Vec<u8>) -> Result<(), AllocError>
     ensures ok { OnOk result (out.new.items ≡ out.old.items ++ lenenc_bytes value) }

@@ -20,7 +20,7 @@ mod text_list;
 pub use close_reason::CloseReason;
 pub use deframer::Deframer;
 pub use drop_cause::DropCause;
-pub use fault::WireFault;
+pub use fault::{NextError, WireFault};
 pub use framing::frame;
 pub use law::{beginnings_are_read, later_bytes_change_nothing, streams_are_read};
 pub use lenenc::{LenencFault, put_lenenc, read_lenenc, split_lenenc};

@@ -1,4 +1,4 @@
-// Which commits a read has to see.
+//! Which commits a read has to see.
 
 /// Which commits a read on a replica waits for: none, those of its own session, or all that the proxy has
 /// seen (MaxScale's `causal_reads` at `none`, `local` and `global`).

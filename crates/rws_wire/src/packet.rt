@@ -1,4 +1,4 @@
-// One packet at the front of bytes.
+//! One packet at the front of bytes, a header and so many bytes ("Standard packet").
 ghost use Rattle.std.specs.Prelude.{◌≡◌, ◌<◌, ◌^◌};
 ghost use Rattle.rws_wire.specs.Payloads.{packet_of, packet_with};
 
@@ -7,7 +7,7 @@ use crate::WireFault;
 /// The length of a packet behind which its payload goes on.
 pub const FULL_PACKET: usize = 0xFF_FFFF;
 
-// The length of a header: three bytes of length, one of number.
+/// The length of a header: three bytes of length, one of number.
 pub const HEADER_LEN: usize = 4;
 
 /// What bytes begin with, read as a packet of a payload.
@@ -23,8 +23,8 @@ pub enum Packet {
     Last(usize),
 }
 
-// The packet that the bytes begin with, if it is to have this number and `before` bytes of its payload come
-// before it.
+/// The packet that the bytes begin with, if it is to have this number and `before` bytes of its payload come
+/// before it.
 pub fn packet_of(bytes: &[u8], number: u8, before: usize, limit: u64) -> Packet
     requires { before < 2 ^ 63 }
     ensures { result ≡ packet_of limit number before bytes.now }
@@ -43,6 +43,7 @@ pub fn packet_of(bytes: &[u8], number: u8, before: usize, limit: u64) -> Packet
     }
 }
 
+/// The packet whose header has the due number and announces so many bytes, by the rest behind the header.
 #[tactic(auto, unfolding(crate::specs::Packets::full_packet))]
 fn packet_with(announced: u32, rest: &[u8], before: usize, limit: u64) -> Packet
     requires { before < 2 ^ 63 }

@@ -1,4 +1,4 @@
-// A list of payloads.
+//! A list of payloads.
 
 use crate::TextList;
 

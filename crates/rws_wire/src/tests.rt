@@ -1,4 +1,4 @@
-// Worked packets and integers, and each call that takes memory once.
+//! Worked packets and integers, and each call that takes memory once.
 
 use super::*;
 use std::alloc::{AllocError, Global};
@@ -59,14 +59,20 @@ fn faults(rt: HostRuntime) -> Result<(), Fail> {
         deframer.feed(&header[..3])?;
         assert!(rt; matches!(deframer.next_payload(0), Ok(None)));
         deframer.feed(&header[3..])?;
-        assert_eq!(rt; deframer.next_payload(0).err(), Some(fault));
-        assert_eq!(rt; deframer.next_payload(1).err(), Some(fault));
+        assert_eq!(rt;
+            deframer.next_payload(0).err(),
+            Some(NextError::Fault(fault))
+        );
+        assert_eq!(rt;
+            deframer.next_payload(1).err(),
+            Some(NextError::Fault(fault))
+        );
         assert_eq!(rt; deframer.held(), 4);
     }
     Ok(())
 }
 
-// Bytes in a pattern whose length divides that of no piece, so that pieces that are mixed up show.
+/// Bytes in a pattern whose length divides that of no piece, so that pieces that are mixed up show.
 fn patterned(alloc: Global, size: usize) -> Result<Vec<u8>, AllocError> {
     let mut bytes = Vec::with_capacity(alloc, size)?;
     for at in 0..size {
@@ -85,7 +91,7 @@ fn full_packet_has_an_empty_one_behind(rt: HostRuntime) -> Result<(), Fail> {
     Ok(())
 }
 
-// Linear in the bytes: a reader that copied what it holds at each piece would move 128 GiB here.
+/// Linear in the bytes: a reader that copied what it holds at each piece would move 128 GiB here.
 #[test]
 fn large_payload_in_small_pieces(rt: HostRuntime) -> Result<(), Fail> {
     let payload = patterned(rt.alloc(), 2 * packet::FULL_PACKET + 5)?;

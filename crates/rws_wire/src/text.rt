@@ -1,4 +1,4 @@
-// Bytes that a value owns, which contracts see as a list.
+//! Bytes that a value owns, which contracts see as a list.
 ghost use Rattle.std.specs.Prelude.{◌≡◌, ◌++◌, ◌+◌, ◌==◌, List, [], ◌∷◌, ℕ, Some, length, nat_eq, refl, IfOk, OnOk, OnErr};
 ghost use Rattle.std.specs.Cmp.{partial_equiv_from_equiv};
 ghost use Rattle.std.specs.Cmp.Lexicographic.{nat_list_cmp_total, nat_list_eq_equiv, pointwise, slice_cmp, texts_po, texts_ties};
@@ -48,6 +48,7 @@ impl Text {
         })
     }
 
+    /// A look at the bytes.
     pub fn as_slice(&self) -> &[u8]
         ensures { result.now ≡ self.now }
     {
@@ -61,6 +62,7 @@ impl Text {
         self.bytes.len()
     }
 
+    /// Whether there is no byte.
     pub fn is_empty(&self) -> bool
         ensures { result ≡ (length self.now == 0) }
     {

@@ -1,4 +1,4 @@
-// A list of texts, which contracts see as a list of lists of bytes.
+//! A list of texts, which contracts see as a list of lists of bytes.
 ghost use Rattle.std.specs.Prelude.{◌≡◌, ◌++◌, ◌==◌, List, [], ◌∷◌, ℕ, length, slice_get, take, OnOk, OnErr};
 ghost use Rattle.std.specs.Option.{option_copied};
 
@@ -28,18 +28,21 @@ impl TextList {
         }
     }
 
+    /// How many texts there are.
     pub fn len(&self) -> usize
         ensures { result ≡ length self.now }
     {
         self.texts.len()
     }
 
+    /// Whether there is no text.
     pub fn is_empty(&self) -> bool
         ensures { result ≡ (length self.now == 0) }
     {
         self.texts.is_empty()
     }
 
+    /// A look at the texts.
     pub fn as_slice(&self) -> &[Text]
         ensures { result.now ≡ self.now }
     {

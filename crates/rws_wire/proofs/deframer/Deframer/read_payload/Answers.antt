@@ -1,7 +1,7 @@
 use Rattle.std.proofs.Common.{◌≡◌, length, refl, ap, arith}
 use Rattle.rws_wire.specs.Deframing.{Deframing}
 use Rattle.rws_wire.specs.Packets.{spelling}
-use Rattle.rws_wire.proofs.DeframerLemmas.{is_behind, next_unstopped, fault_of_look, no_memory_fault, fault_answers}
+use Rattle.rws_wire.proofs.DeframerLemmas.{is_behind, next_unstopped, fault_of_look}
 use Rattle.rws_wire.proofs.deframer.Deframer.read_payload.Goals as goal
 
 pub overflow_sub-self : goal.overflow_sub-self
@@ -9,25 +9,22 @@ overflow_sub-self c =
     let d = c.self.inside in
     let p = c.in_ok-payload-in-Whole.payload in
     let h = rw c.deref.ensures.value at c.in_ok-payload-in-Whole.ensures.spelled in
-    let t = is_behind d.start d.bytes.items (spelling c.args.first p.bytes) c.in_ok-payload-in-Whole.behind.now c.self.invariant.0 h.0 in
+    let t = is_behind d.start d.bytes.items (spelling c.args.first p.bytes) c.in_ok-payload-in-Whole.behind.now c.self.invariant h.0 in
     omega (arith, t.fits)
 
-pub invariant_of-self : goal.invariant_of-self
-invariant_of-self c = (c.self.invariant.0, no_memory_fault c.self.inside.limit c.args.first _ c.in-Bad.fault (fault_of_look _ c.in-Bad.fault c.in-Bad.ensures))
-
-pub returns-in-Bad-clause-answer : goal.returns-in-Bad-clause-answer
-returns-in-Bad-clause-answer c =
+pub returns-in-Bad-clause-hands_out : goal.returns-in-Bad-clause-hands_out
+returns-in-Bad-clause-hands_out c =
     let d = c.self.inside in
     let faulty = rw c.deref.ensures.value at (fault_of_look _ c.in-Bad.fault c.in-Bad.ensures) in
     let read = next_unstopped c.args.self.now c.args.first d.limit d.start d.bytes.items _ c.requires (ap (λ (v : Deframing). v.limit) c.self.view_is) (ap (λ (v : Deframing). v.held) c.self.view_is) faulty in
-    fault_answers c.args.self.now _ c.args.first c.in-Bad.fault (no_memory_fault d.limit c.args.first _ c.in-Bad.fault faulty) read (rw (← c.self.view_is) refl)
+    (read, rw (← c.self.view_is) refl)
 
-pub returns-in_ok-payload-in-Whole-clause-answer : goal.returns-in_ok-payload-in-Whole-clause-answer
-returns-in_ok-payload-in-Whole-clause-answer c =
+pub returns-in_ok-payload-in-Whole-clause-hands_out : goal.returns-in_ok-payload-in-Whole-clause-hands_out
+returns-in_ok-payload-in-Whole-clause-hands_out c =
     let d = c.self.inside in
     let p = c.in_ok-payload-in-Whole.payload in
     let h = rw c.deref.ensures.value at c.in_ok-payload-in-Whole.ensures.spelled in
-    let t = is_behind d.start d.bytes.items (spelling c.args.first p.bytes) c.in_ok-payload-in-Whole.behind.now c.self.invariant.0 h.0 in
+    let t = is_behind d.start d.bytes.items (spelling c.args.first p.bytes) c.in_ok-payload-in-Whole.behind.now c.self.invariant h.0 in
     let size : c.len.result ≡ length d.bytes.items = omega arith in
     let whole = rw c.deref.ensures.value at c.in_ok-payload-in-Whole.ensures.gathers in
     let read = next_unstopped c.args.self.now c.args.first d.limit d.start d.bytes.items _ c.requires (ap (λ (v : Deframing). v.limit) c.self.view_is) (ap (λ (v : Deframing). v.held) c.self.view_is) whole in
@@ -38,6 +35,6 @@ returns-in_ok-payload-in-Whole-clause-spelled c =
     let d = c.self.inside in
     let p = c.in_ok-payload-in-Whole.payload in
     let h = rw c.deref.ensures.value at c.in_ok-payload-in-Whole.ensures.spelled in
-    let t = is_behind d.start d.bytes.items (spelling c.args.first p.bytes) c.in_ok-payload-in-Whole.behind.now c.self.invariant.0 h.0 in
+    let t = is_behind d.start d.bytes.items (spelling c.args.first p.bytes) c.in_ok-payload-in-Whole.behind.now c.self.invariant h.0 in
     let size : c.len.result ≡ length d.bytes.items = omega arith in
     rw (c.give_back.ensures, size, ← c.self.view_is) (t.spelled, h.1, h.2)
