@@ -27,6 +27,7 @@ pub enum ProxyError {
 impl ProxyError {
     /// The payload of the error packet (ERR_Packet): 0xFF, the code with its low byte first, `#` and the SQL state, and the
     /// text. It takes no memory.
+    #[tactic(auto, unfolding(rws_msgs::specs::ErrLayout::err_bytes))]
     pub fn payload(self) -> &'static [u8]
         ensures { result.now ≡ err_bytes (error_of self) }
     {
