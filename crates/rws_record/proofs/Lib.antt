@@ -1,0 +1,8 @@
+-- how a record, and a run, goes on
+pub mod StepLemmas
+pub mod EntryLemmas
+-- the law that events determine the run
+pub mod OneRunLemmas
+-- the laws on the records in a run
+-- pub mod RecordLemmas
+-- pub mod LinkLemmas

@@ -1,0 +1,159 @@
+-- How a legal record goes on: what its newest item says of the record below it.
+use Rattle.std.proofs.Common.{◌≡◌, ℕ, suc, Bool, true, false, List, [], ◌∷◌, refl, sym, ap, subst, ◌∙◌, arith, inl, inr, Option, Some, None}
+use Rattle.std.specs.Prelude.{◌⊎◌, Contains, if◌then◌else◌}
+use Rattle.rws_wire.specs.declared.fault.WireFault.{WireFault}
+use Rattle.rws_wire.specs.Payloads.{Beginning, first_payload}
+use Rattle.rws_wire.specs.Payloads.Beginning.{Nothing, Whole, Faulty}
+use Rattle.rws_config.specs.declared.config.Config.{Config}
+use Rattle.rws_config.specs.declared.limits.TheConstants.{SERVER_PAYLOAD}
+use Rattle.rws_record.specs.declared.command.Command.{Command}
+use Rattle.rws_record.specs.Item.{Item, Put}
+use Rattle.rws_record.specs.Item.Item.{Began, ClientBytes, LinkBytes, ClientGone, LinkLost, Replies, Garbles, Strays, Takes, TakesFault, Puts}
+use Rattle.rws_record.specs.Item.Put.{Sends}
+use Rattle.rws_record.specs.Item.Purpose.{Asks}
+use Rattle.rws_record.specs.Judging.{judged}
+use Rattle.rws_record.specs.Values.{opens, held, links, contains, kept_on, Exchange, exchange, link_held, pending, sent_on, is_over}
+use Rattle.rws_record.specs.Rules.{next, next_by, owed, due, due_send, due_arrival, due_take, send_by, arrival, part_of, reply_by, take_by, taking, is_some_byte, ◌or◌}
+use Rattle.rws_record.specs.Record.{IsInput}
+
+-- what is due of bytes that came
+pub data Due (config : Config) (past : List Item) : Item → Type 0 where
+  replies : {link : ℕ} {e : Exchange} {payload rest : List ℕ} {number : ℕ} → Contains (links past) link
+      → exchange link past ≡ Some e
+      → first_payload SERVER_PAYLOAD e.next (link_held link past) ≡ Whole payload number rest
+      → Due config past (Replies link (part_of e payload number rest))
+  garbles : {link : ℕ} {e : Exchange} {fault : WireFault} → Contains (links past) link → exchange link past ≡ Some e
+      → first_payload SERVER_PAYLOAD e.next (link_held link past) ≡ Faulty fault → Due config past (Garbles link fault)
+  strays : {link byte : ℕ} {rest : List ℕ} → Contains (links past) link → exchange link past ≡ None
+      → link_held link past ≡ byte ∷ rest → Due config past (Strays link)
+  takes : {payload rest : List ℕ} {number : ℕ} → pending past ≡ None
+      → first_payload config.command_bytes 0 (held config past) ≡ Whole payload number rest
+      → Due config past (Takes (judged payload number) number)
+  takes_fault : {fault : WireFault} → pending past ≡ None
+      → first_payload config.command_bytes 0 (held config past) ≡ Faulty fault → Due config past (TakesFault fault)
+
+-- how a record goes on by a step of its own
+pub data Step (config : Config) (past : List Item) : Item → Type 0 where
+  pays : {put : Put} {others : List Put} → owed past ≡ put ∷ others → Step config past (Puts put)
+  sends : {link : ℕ} {command : Command} → owed past ≡ [] → is_over past ≡ false → pending past ≡ Some command
+      → sent_on past ≡ None → kept_on past ≡ Some link → contains link (links past) ≡ true
+      → Step config past (Puts (Sends link (Asks command)))
+  reads : {item : Item} → owed past ≡ [] → is_over past ≡ false → Due config past item → Step config past item
+
+as_due : {config : Config} {past : List Item} {one other : Item} → one ≡ other → Due config past one → Due config past other
+as_due {config} {past} same due = subst (Due config past) same due
+
+-- the first of two, or the second
+pub either : {A : Type 0} (a b : Option A) (x : A) → (a or b) ≡ Some x → (a ≡ Some x) ⊎ (b ≡ Some x)
+either (Some found) b x e = inl e
+either None b x e = inr e
+
+-- neither of two
+pub neither : {A : Type 0} (a b : Option A) → (a or b) ≡ None → (a ≡ None) × (b ≡ None)
+neither (Some found) b e = absurd cc
+neither None b e = (refl, e)
+
+module _ (config : Config) (past : List Item) (item : Item) where
+  of_send : (command : Option Command) (sent kept : Option ℕ) → owed past ≡ [] → is_over past ≡ false
+      → pending past ≡ command → sent_on past ≡ sent → kept_on past ≡ kept
+      → send_by command sent kept (links past) ≡ Some item → Step config past item
+  of_send None sent kept o n p s k e = absurd cc
+  of_send (Some command) (Some to) kept o n p s k e = absurd cc
+  of_send (Some command) None None o n p s k e = absurd cc
+  of_send (Some command) None (Some link) o n p s k e = by_test (contains link (links past)) refl e
+    where
+      by_test : (test : Bool) → contains link (links past) ≡ test
+          → (if test then Some (Puts (Sends link (Asks command))) else None) ≡ Some item → Step config past item
+      by_test true t e = let same : Puts (Sends link (Asks command)) ≡ item = cc in subst (Step config past) same (sends o n p s k t)
+      by_test false t e = absurd cc
+
+  of_reply : (link : ℕ) (e : Exchange) (found : Beginning) → Contains (links past) link → exchange link past ≡ Some e
+      → first_payload SERVER_PAYLOAD e.next (link_held link past) ≡ found → reply_by link e found ≡ Some item
+      → Due config past item
+  of_reply link e Nothing has a f is = absurd cc
+  of_reply link e (Whole payload number rest) has a f is =
+      let same : Replies link (part_of e payload number rest) ≡ item = cc in as_due same (replies has a f)
+  of_reply link e (Faulty fault) has a f is = let same : Garbles link fault ≡ item = cc in as_due same (garbles has a f)
+
+  of_arrival : (link : ℕ) (e : Option Exchange) (bytes : List ℕ) → Contains (links past) link → exchange link past ≡ e
+      → link_held link past ≡ bytes → arrival link e bytes ≡ Some item → Due config past item
+  of_arrival link (Some e) bytes has a h is =
+      of_reply link e (first_payload SERVER_PAYLOAD e.next bytes) has a (ap (first_payload SERVER_PAYLOAD e.next) h) is
+  of_arrival link None [] has a h is = absurd cc
+  of_arrival link None (byte ∷ rest) has a h is = let same : Strays link ≡ item = cc in as_due same (strays has a h)
+
+  -- a list of links of which each is one of the session's
+  of_arrivals : (some : List ℕ) → ((link : ℕ) → Contains some link → Contains (links past) link)
+      → due_arrival some past ≡ Some item → Due config past item
+  of_arrivals [] has e = absurd cc
+  of_arrivals (link ∷ others) has e =
+      elim (either (arrival link (exchange link past) (link_held link past)) (due_arrival others past) item e) [
+        | inl here ↦ of_arrival link (exchange link past) (link_held link past) (has link (0, omega arith, refl)) refl refl here
+        | inr there ↦ of_arrivals others (λ other at. has other (suc at.0, omega arith, at.2)) there
+      ]
+
+  of_take : (command : Option Command) (found : Beginning) → pending past ≡ command
+      → first_payload config.command_bytes 0 (held config past) ≡ found → take_by command found ≡ Some item
+      → Due config past item
+  of_take (Some command) found p f e = absurd cc
+  of_take None Nothing p f e = absurd cc
+  of_take None (Whole payload number rest) p f e =
+      let same : Takes (judged payload number) number ≡ item = cc in as_due same (takes p f)
+  of_take None (Faulty fault) p f e = let same : TakesFault fault ≡ item = cc in as_due same (takes_fault p f)
+
+  of_due : owed past ≡ [] → is_over past ≡ false → due config past ≡ Some item → Step config past item
+  of_due o n e =
+      elim (either (due_send past) (due_arrival (links past) past or due_take config past) item e) [
+        | inl send ↦ of_send (pending past) (sent_on past) (kept_on past) o n refl refl refl send
+        | inr e ↦ elim (either (due_arrival (links past) past) (due_take config past) item e) [
+          | inl arrive ↦ reads o n (of_arrivals (links past) (λ link has. has) arrive)
+          | inr take ↦ reads o n (of_take (pending past) (first_payload config.command_bytes 0 (held config past)) refl refl take)
+        ]
+      ]
+
+  of_next_by : (list : List Put) (over : Bool) → owed past ≡ list → is_over past ≡ over
+      → next_by list over (due config past) ≡ Some item → Step config past item
+  of_next_by (put ∷ others) over o p e = let same : Puts put ≡ item = cc in subst (Step config past) same (pays o)
+  of_next_by [] true o p e = absurd cc
+  of_next_by [] false o p e = of_due o p e
+
+  pub of_next : next config past ≡ Some item → Step config past item
+  of_next e = of_next_by (owed past) (is_over past) refl refl e
+
+-- a record that rests owes nothing
+pub rests_owing_nothing : (config : Config) (past : List Item) → next config past ≡ None → owed past ≡ []
+rests_owing_nothing config past e = by_owed (owed past) refl e
+  where
+    by_owed : (list : List Put) → owed past ≡ list → next_by list (is_over past) (due config past) ≡ None → owed past ≡ []
+    by_owed [] o e = o
+    by_owed (put ∷ others) o e = absurd cc
+
+-- and where it isn't over, nothing is due
+pub rests_with_nothing_due : (config : Config) (past : List Item) → next config past ≡ None → is_over past ≡ false
+    → due config past ≡ None
+rests_with_nothing_due config past e over = by_owed (owed past) e
+  where
+    by_owed : (list : List Put) → next_by list (is_over past) (due config past) ≡ None → due config past ≡ None
+    by_owed [] e = let e : next_by [] false (due config past) ≡ None = rw over at e in e
+    by_owed (put ∷ others) e = absurd cc
+
+-- No step of a session's own opens a link.
+
+due_opens_none : {config : Config} {past : List Item} {item : Item} → Due config past item → opens item ≡ None
+due_opens_none (replies has a f) = refl
+due_opens_none (garbles has a f) = refl
+due_opens_none (strays has a u) = refl
+due_opens_none (takes p f) = refl
+due_opens_none (takes_fault p f) = refl
+
+pub step_opens_none : {config : Config} {past : List Item} {item : Item} → Step config past item → opens item ≡ None
+step_opens_none (pays o) = refl
+step_opens_none (sends o n p s k c) = refl
+step_opens_none (reads o n due) = due_opens_none due
+
+pub input_opens_none : (item : Item) (past : List Item) → IsInput item past → opens item ≡ None
+input_opens_none (ClientBytes bytes) past input = refl
+input_opens_none ClientGone past input = refl
+input_opens_none (LinkBytes link bytes) past input = refl
+input_opens_none (LinkLost link) past input = refl
+input_opens_none _ past input = absurd input
