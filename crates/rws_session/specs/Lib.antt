@@ -1,12 +1,5 @@
-pub mod Item
-pub mod Judging
-pub mod Values
-pub mod Rules
-pub mod Outputs
-pub mod Record
+-- what a session keeps, as a function of its record
+pub mod State
 pub mod Kept
+-- a turn
 pub mod Turning
-pub mod Run
-pub mod Causes
-pub mod Effects
-pub mod Laws

@@ -1,4 +1,4 @@
-// What a session is told.
+//! What a session is told.
 
 use rws_wire::Text;
 

@@ -1,0 +1,26 @@
+//! What a session owes: it is decided on, and given out in later steps of the same turn.
+
+use rws_record::ProxyError;
+use rws_reply::Outcome;
+use rws_wire::{CloseReason, DropCause, Text};
+
+/// Something to be given out, with all that is needed for it.
+#[derive(Drop)]
+pub(crate) enum Out {
+    /// A payload of the reply that `link` gives goes to the client, in packets from `number` on. `outcome` says how the
+    /// reply ended, at its last payload.
+    Pass {
+        number: u8,
+        link: u64,
+        payload: Text,
+        outcome: Option<Outcome>,
+    },
+    /// The proxy's own OK goes to the client.
+    Own { number: u8, status: u16 },
+    /// An error of the proxy's own goes to the client.
+    Refuse { number: u8, error: ProxyError },
+    /// A link is given up.
+    Drop { link: u64, cause: DropCause },
+    /// The session is closed.
+    Close { reason: CloseReason },
+}
