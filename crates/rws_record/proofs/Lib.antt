@@ -4,5 +4,5 @@ pub mod EntryLemmas
 -- the law that events determine the run
 pub mod OneRunLemmas
 -- the laws on the records in a run
--- pub mod RecordLemmas
--- pub mod LinkLemmas
+pub mod RecordLemmas
+pub mod LinkLemmas

@@ -1,0 +1,257 @@
+-- In a legal run the record of each session is legal. A session rests unless it is the one that heard of the last event.
+use Rattle.std.proofs.Common.{◌≡◌, ℕ, suc, ◌+◌, ◌<◌, max, Bool, true, false, List, [], ◌∷◌, refl, sym, ap, subst, ◌∙◌, arith, inl, inr, Option, Some, None}
+use Rattle.std.specs.Prelude.{◌⊎◌, Contains, nat_lt, ◌==◌, ◌&&◌, not, drop, length, if◌then◌else◌}
+use Rattle.std.specs.Option.{option_map}
+use Rattle.std.proofs.lemmas.Bool.{ltb-true, eqb-true, eqb-false}
+use Rattle.rws_wire.specs.Payloads.{payload_behind, first_payload}
+use Rattle.rws_board.specs.declared.event.Event.{Event}
+use Rattle.rws_board.specs.declared.event.Event.TheVariants as events
+use Rattle.rws_config.specs.declared.config.Config.{Config}
+use Rattle.rws_record.specs.Item.{Item}
+use Rattle.rws_record.specs.Item.Item.{Began, ClientBytes, LinkBytes, ClientGone, LinkLost}
+use Rattle.rws_record.specs.Values.{links, is_over, contains}
+use Rattle.rws_record.specs.Rules.{next}
+use Rattle.rws_record.specs.Record.{IsRecord, IsInput}
+use Rattle.rws_record.specs.Record.IsRecord.{begins, steps, hears}
+use Rattle.rws_record.specs.Run.{Entry, IsRun, next_entry, record_of, is_live, begun_by, greatest, last_link, owner, if_so, told_by, told_to, told_on, untold, hearer, step_of, hearing}
+use Rattle.rws_record.specs.Run.Entry.{Came, Heard, Did}
+use Rattle.rws_record.specs.Run.IsRun.{starts, came, goes_on}
+use Rattle.rws_record.specs.Laws.{Records}
+use Rattle.rws_record.proofs.EntryLemmas.{Next, of_next_entry, rests}
+use Rattle.rws_record.proofs.EntryLemmas.Next.{did, heard}
+
+-- the same fact on a record and on one with an item more
+module _ (P : List Item → Type 0) (session other : ℕ) (item : Item) (past : List Item)
+    (more : session ≡ other → P (item ∷ past)) (same : (session ≡ other → ⊥) → P past) where
+  by_test : (test : Bool) → (session == other) ≡ test → P (if test then item ∷ past else past)
+  by_test true e = more (eqb-true session other e)
+  by_test false e = same (eqb-false session other e)
+
+  pub one_more : P (if session == other then item ∷ past else past)
+  one_more = by_test (session == other) refl
+
+nothing_at_first : (config : Config) → next config [] ≡ None
+unfolding first_payload payload_behind
+nothing_at_first config = refl
+
+-- what a session that rests may hear: the first item of one that hasn't begun, or what comes from outside
+pub data Hearable (run : List Entry) (session : ℕ) : Item → Type 0 where
+  begins_it : {link server : ℕ} → record_of session run ≡ [] → link ≡ last_link run + 1 → Hearable run session (Began link server)
+  comes_in : {item : Item} → is_live (record_of session run) ≡ true → IsInput item (record_of session run)
+      → Hearable run session item
+
+-- What is still to be told is one thing at most, to a session that may hear it.
+pub data Tells (run : List Entry) : List (ℕ × Item) → Type 0 where
+  nothing : Tells run []
+  one : {session : ℕ} {item : Item} → (greatest run < session → ⊥) → Hearable run session item
+      → Tells run ((session, item) ∷ [])
+
+pub record Each (config : Config) (run : List Entry) : Type 0 where
+  -- a session that didn't hear of the last event rests
+  pub rests : (session : ℕ) → (hearer run ≡ Some session → ⊥) → next config (record_of session run) ≡ None
+  -- a session of a greater number hasn't begun
+  pub unborn : (session : ℕ) → greatest run < session → record_of session run ≡ []
+  pub legal : (session : ℕ) → (record_of session run ≡ []) ⊎ IsRecord config (record_of session run)
+  pub tells : Tells run (untold config run)
+  -- where a session heard of the last event, nothing is still to be told
+  pub told : (session : ℕ) → hearer run ≡ Some session → untold config run ≡ []
+
+-- A run that rests
+
+none_from_map : (session : ℕ) (step : Option Item) → option_map {U = Entry} (λ item. Did session item) step ≡ None → step ≡ None
+none_from_map session None e = refl
+none_from_map session (Some item) e = absurd cc
+
+rests_each : {config : Config} (run : List Entry) → Each config run → step_of config (hearer run) run ≡ None → (session : ℕ)
+    → next config (record_of session run) ≡ None
+rests_each {config} run each quiet session = by_hearer (hearer run) refl quiet
+  where
+    by_number : (number : ℕ) (test : Bool) → (number == session) ≡ test → hearer run ≡ Some number
+        → step_of config (Some number) run ≡ None
+        → next config (record_of session run) ≡ None
+    by_number number true t h e =
+        subst (λ (n : ℕ). next config (record_of n run) ≡ None) (eqb-true number session t)
+        (none_from_map number (next config (record_of number run)) e)
+    by_number number false t h e =
+        each.rests session (λ is. let both : Some number ≡ Some session = sym h ∙ is in let same : number ≡ session = cc in eqb-false number session t same)
+
+    by_hearer : (its : Option ℕ) → hearer run ≡ its → step_of config its run ≡ None → next config (record_of session run) ≡ None
+    by_hearer None h e = each.rests session (λ is. absurd cc)
+    by_hearer (Some number) h e = by_number number (number == session) refl h e
+
+-- What an event tells
+
+both_hold : (a b : Bool) → (a && b) ≡ true → (a ≡ true) × (b ≡ true)
+both_hold true b e = (refl, e)
+both_hold false b e = absurd cc
+
+here_or_there : (link first : ℕ) (others : List ℕ) (test : Bool) → (first == link) ≡ test
+    → (contains link others ≡ true → Contains others link)
+    → (if test then true else contains link others) ≡ true → Contains (first ∷ others) link
+here_or_there link first others true t in_others e = (0, omega arith, eqb-true first link t)
+here_or_there link first others false t in_others e = let there = in_others e in (suc there.0, omega arith, there.2)
+
+-- a link of a list is an element of it
+pub contained : (link : ℕ) (list : List ℕ) → contains link list ≡ true → Contains list link
+contained link [] e = absurd cc
+contained link (first ∷ others) e = here_or_there link first others (first == link) refl (contained link others) e
+
+module _ {config : Config} (run : List Entry) (each : Each config run) (event : Event) where
+  -- a session that goes on has a number that began
+  live_began : (session : ℕ) → is_live (record_of session run) ≡ true → max (begun_by event) (greatest run) < session → ⊥
+  live_began session live above =
+      let none = each.unborn session (omega arith) in
+      let live : is_live [] ≡ true = rw none at live in
+      absurd cc
+
+  live_tells : (session : ℕ) (item : Item) (test : Bool) → (test ≡ true → is_live (record_of session run) ≡ true)
+      → (test ≡ true → IsInput item (record_of session run)) → Tells (Came event ∷ run) (if_so test (session, item))
+  live_tells session item false live input = nothing
+  live_tells session item true live input = one (live_began session (live refl)) (comes_in (live refl) (input refl))
+
+  link_tells : (link : ℕ) (item : Item) (of : Option ℕ)
+      → ((past : List Item) → Contains (links past) link → IsInput item past) → Tells (Came event ∷ run) (told_on link item of run)
+  link_tells link item None input = nothing
+  link_tells link item (Some session) input =
+      let past : List Item = record_of session run in
+      live_tells session item (is_live past && contains link (links past))
+      (λ t. (both_hold (is_live past) (contains link (links past)) t).0)
+      (λ t. input past (contained link (links past) (both_hold (is_live past) (contains link (links past)) t).1))
+
+  begin_tells : (session server : ℕ) (test : Bool) → (test ≡ true → greatest run < session) → begun_by event ≡ session
+      → Tells (Came event ∷ run) (if_so test (session, Began (last_link run + 1) server))
+  begin_tells session server false above begun = nothing
+  begin_tells session server true above begun =
+      one (λ more. let least : begun_by event ≡ session = begun in omega arith) (begins_it (each.unborn session (above refl)) refl)
+
+event_tells : {config : Config} (run : List Entry) (each : Each config run) (event : Event)
+    → Tells (Came event ∷ run) (told_by config event run)
+event_tells {config} run each (events.Begin session server) =
+    begin_tells run each (events.Begin session server) session server
+    (nat_lt (greatest run) session && nat_lt server (length config.servers))
+    (λ t. ltb-true (greatest run) session (both_hold (nat_lt (greatest run) session) (nat_lt server (length config.servers)) t).0) refl
+event_tells run each (events.ClientBytes session bytes) =
+    live_tells run each (events.ClientBytes session bytes) session (ClientBytes bytes) (is_live (record_of session run)) (λ t. t) (λ t. tt)
+event_tells run each (events.ClientGone session) =
+    live_tells run each (events.ClientGone session) session ClientGone (is_live (record_of session run)) (λ t. t) (λ t. tt)
+event_tells run each (events.LinkBytes link bytes) =
+    link_tells run each (events.LinkBytes link bytes) link (LinkBytes link bytes) (owner link run) (λ past has. has)
+event_tells run each (events.LinkGone link) =
+    link_tells run each (events.LinkGone link) link (LinkLost link) (owner link run) (λ past has. has)
+event_tells run each events.End = nothing
+
+-- An event
+
+came_each : {config : Config} {run : List Entry} {event : Event} → Each config run → next_entry config run ≡ None
+    → Each config (Came event ∷ run)
+came_each {config} {run} {event} each quiet = record {
+  rests = λ session _. rests_each run each (rests config run quiet).0 session;
+  unborn = λ session above. each.unborn session (omega arith);
+  legal = each.legal;
+  tells = event_tells run each event;
+  told = λ session h. absurd cc;
+}
+
+-- What a session hears
+
+live_not_over : (past : List Item) → is_live past ≡ true → is_over past ≡ false
+live_not_over [] live = absurd cc
+live_not_over (item ∷ past) live = by_test (is_over (item ∷ past)) live
+  where
+    by_test : (test : Bool) → not test ≡ true → test ≡ false
+    by_test true e = absurd cc
+    by_test false e = refl
+
+live_legal : {config : Config} (past : List Item) → is_live past ≡ true → (past ≡ []) ⊎ IsRecord config past → IsRecord config past
+live_legal [] live legal = absurd cc
+live_legal (item ∷ past) live (inl none) = absurd cc
+live_legal (item ∷ past) live (inr legal) = legal
+
+heard_legal : {config : Config} {run : List Entry} {session : ℕ} {item : Item} → Each config run
+    → next config (record_of session run) ≡ None → Hearable run session item → IsRecord config (item ∷ record_of session run)
+heard_legal each quiet (begins_it {link = link} {server = server} none l) = rw none (begins link server)
+heard_legal {config} {run} {session} each quiet (comes_in live input) =
+    let past : List Item = record_of session run in
+    hears (live_legal past live (each.legal session)) quiet (live_not_over past live) input
+
+-- what is told first of what is still to be told, which is all
+pub record First (run : List Entry) (session : ℕ) (item : Item) (others : List (ℕ × Item)) : Type 0 where
+  pub began : greatest run < session → ⊥
+  pub hearable : Hearable run session item
+  pub none : others ≡ []
+
+pub first_of : {run : List Entry} {list : List (ℕ × Item)} {session : ℕ} {item : Item} {others : List (ℕ × Item)} → Tells run list
+    → list ≡ (session, item) ∷ others → First run session item others
+first_of nothing e = absurd cc
+first_of {run} {session = session} {item = item} {others = others} (one {session = its} {item = told} began hearable) e =
+    let pair : ◌≡◌ {A = ℕ × Item} (its, told) (session, item) = cc in
+    let number : its ≡ session = ap (λ (p : ℕ × Item). p.0) pair in
+    let same : told ≡ item = ap (λ (p : ℕ × Item). p.1) pair in
+    record {
+      began = λ above. began (omega arith);
+      hearable = subst (Hearable run session) same (subst (λ (n : ℕ). Hearable run n told) number hearable);
+      none = cc;
+    }
+
+heard_each : {config : Config} {run : List Entry} {session : ℕ} {item : Item} {others : List (ℕ × Item)} → Each config run
+    → step_of config (hearer run) run ≡ None → untold config run ≡ (session, item) ∷ others
+    → First run session item others → Each config (Heard session item ∷ run)
+heard_each {config} {run} {session} {item} {others} each quiet u first = record {
+  rests = λ other not_it. one_more (λ past. next config past ≡ None) session other item (record_of other run)
+      (λ same. absurd (not_it (ap Some same))) (λ _. rests_each run each quiet other);
+  unborn = λ other above. one_more (λ past. past ≡ []) session other item (record_of other run)
+      (λ same. absurd (first.began (omega arith))) (λ _. each.unborn other above);
+  legal = λ other. one_more (λ past. (past ≡ []) ⊎ IsRecord config past) session other item (record_of other run)
+      (λ same. inr (subst (λ (number : ℕ). IsRecord config (item ∷ record_of number run)) same
+      (heard_legal each (rests_each run each quiet session) first.hearable)))
+      (λ _. each.legal other);
+  tells = rw (u, first.none) nothing;
+  told = λ other h. rw (u, first.none) refl;
+}
+
+-- A session's own step
+
+step_legal : {config : Config} (past : List Item) (item : Item) → next config past ≡ Some item
+    → (past ≡ []) ⊎ IsRecord config past → IsRecord config (item ∷ past)
+step_legal {config} past item e (inl none) =
+    let first : next config [] ≡ Some item = rw none at e in let at_first = nothing_at_first config in absurd cc
+step_legal past item e (inr legal) = steps legal e
+
+did_each : {config : Config} {run : List Entry} {session : ℕ} {item : Item} → Each config run → hearer run ≡ Some session
+    → next config (record_of session run) ≡ Some item → Each config (Did session item ∷ run)
+did_each {config} {run} {session} {item} each h is_next = record {
+  rests = λ other not_it. one_more (λ past. next config past ≡ None) session other item (record_of other run)
+      (λ same. absurd (not_it (h ∙ ap Some same))) (λ _. each.rests other not_it);
+  unborn = λ other above. one_more (λ past. past ≡ []) session other item (record_of other run)
+      (λ same.
+      let none : record_of session run ≡ [] = rw (← same) at (each.unborn other above) in
+      let first : next config [] ≡ Some item = rw none at is_next in
+      let at_first = nothing_at_first config in
+      absurd cc)
+      (λ _. each.unborn other above);
+  legal = λ other. one_more (λ past. (past ≡ []) ⊎ IsRecord config past) session other item (record_of other run)
+      (λ same. inr (subst (λ (number : ℕ). IsRecord config (item ∷ record_of number run)) same
+      (step_legal (record_of session run) item is_next (each.legal session))))
+      (λ _. each.legal other);
+  tells = rw (each.told session h) nothing;
+  told = λ other _. each.told session h;
+}
+
+next_each : {config : Config} {run : List Entry} {entry : Entry} → Each config run → Next config run entry
+    → Each config (entry ∷ run)
+next_each each (did h is_next) = did_each each h is_next
+next_each each (heard quiet u) = heard_each each quiet u (first_of each.tells u)
+
+pub each_of : {config : Config} {run : List Entry} → IsRun config run → Each config run
+each_of {config} starts = record {
+  rests = λ session _. nothing_at_first config;
+  unborn = λ session above. refl;
+  legal = λ session. inl refl;
+  tells = nothing;
+  told = λ session h. absurd cc;
+}
+each_of (came legal quiet) = came_each (each_of legal) quiet
+each_of {config} (goes_on {run = run} {entry = entry} legal e) = next_each (each_of legal) (of_next_entry config run entry e)
+
+pub records : Records
+records config run legal session = (each_of legal).legal session
