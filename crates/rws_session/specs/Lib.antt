@@ -1,5 +1,6 @@
 -- what a session keeps, as a function of its record
 pub mod State
 pub mod Kept
+pub mod Table
 -- a turn
 pub mod Turning

@@ -3,6 +3,7 @@
 
 mod input;
 mod link;
+mod links;
 mod owing;
 
 pub use input::SessionInput;

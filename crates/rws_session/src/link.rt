@@ -1,7 +1,17 @@
 //! A link of a session, and the reply that it owes.
+ghost use Rattle.std.specs.Prelude.{◌≡◌, ◌∷◌, ◌++◌, [], List, ℕ, Some, None, if◌then◌else◌, IfOk};
+ghost use Rattle.std.specs.Option.{option_map};
+ghost use Rattle.rws_reply.specs.Tracking.{progress};
+ghost use Rattle.rws_record.specs.Item.{Item};
+ghost use Rattle.rws_record.specs.Values.{Exchange, exchange, goes_on, kind_of, link_fault};
+ghost use Rattle.rws_record.specs.Rules.{is_some_byte, part_of};
+ghost use Rattle.rws_session.specs.declared.link.Arrival.TheVariants as arrivals;
+ghost use Rattle.rws_session.specs.State.{awaited_of, link_of};
+ghost use Rattle.rws_session.specs.Table.{Reads, arrival_of};
 
 use rws_reply::{Progress, ReplyTracker};
-use rws_wire::{Deframer, Text, WireFault};
+use rws_wire::{Deframer, NextError, Payload, Text, WireFault};
+use std::alloc::AllocError;
 
 /// A reply that a link owes.
 #[derive(Drop)]
@@ -37,4 +47,85 @@ pub(crate) enum Arrival {
     Garbled(WireFault),
     /// Bytes that nobody awaits.
     Stray,
+}
+
+impl Awaited {
+    /// Takes the next payload of the reply, and the number of the packet behind it.
+    fn take(&mut self, payload: &[u8], next: u8) -> Option<Progress>
+        ensures goes_on { (e : Exchange) → self.old ≡ awaited_of e
+            → self.new ≡ awaited_of (record e { next = next; sofar = e.sofar ++ payload.now ∷ [] }) }
+        ensures tells { (e : Exchange) → self.old ≡ awaited_of e → result ≡ progress (kind_of e.purpose) e.sofar payload.now }
+    {
+        self.next = next;
+        self.tracker.step(payload).ok()
+    }
+}
+
+impl Link {
+    /// Reads what comes next on the link. None where its bytes complete nothing: it is as it was.
+    pub(crate) fn read(&mut self) -> Result<Option<Arrival>, AllocError>
+        ensures { (past : List Item) (number : ℕ) → self.old ≡ link_of past number → link_fault number past ≡ None
+            → IfOk result (λ found. Reads past number found self.new) }
+    {
+        match self.awaited.take() {
+            None => Ok(self.stray()),
+            Some(awaited) => self.read_reply(awaited),
+        }
+    }
+
+    /// Bytes that came while no reply is awaited.
+    fn stray(&self) -> Option<Arrival>
+        ensures { result ≡ (if is_some_byte self.now.stream.held then Some arrivals.Stray else None) }
+    {
+        if self.holds_bytes() {
+            return Some(Arrival::Stray);
+        }
+        None
+    }
+
+    /// Reads what comes next of the reply that is awaited.
+    fn read_reply(&mut self, awaited: Awaited) -> Result<Option<Arrival>, AllocError>
+        ensures { (past : List Item) (number : ℕ) (e : Exchange) → self.old ≡ record (link_of past number) { awaited = None }
+            → exchange number past ≡ Some e → awaited ≡ awaited_of e → link_fault number past ≡ None
+            → IfOk result (λ found. Reads past number found self.new) }
+    {
+        match self.stream.next_payload(awaited.next) {
+            Ok(None) => {
+                self.awaited = Some(awaited);
+                Ok(None)
+            }
+            Ok(Some(Payload { bytes, next })) => Ok(Some(self.take_part(awaited, bytes, next))),
+            Err(NextError::Fault(fault)) => {
+                self.awaited = Some(awaited);
+                Ok(Some(Arrival::Garbled(fault)))
+            }
+            Err(NextError::OutOfMemory) => Err(AllocError),
+        }
+    }
+
+    /// A payload of the reply came. What it leaves of the reply is awaited on.
+    fn take_part(&mut self, mut awaited: Awaited, payload: Text, next: u8) -> Arrival
+        ensures part { (e : Exchange) → awaited ≡ awaited_of e → result ≡ arrival_of (part_of e payload next self.old.stream.held) }
+        ensures rest { (e : Exchange) → awaited ≡ awaited_of e
+            → self.new ≡ record self.old { awaited = option_map awaited_of (goes_on (part_of e payload next self.old.stream.held) (Some e)) } }
+    {
+        let progress = awaited.take(payload.as_slice(), next);
+        self.awaited = match progress {
+            Some(Progress::More) => Some(awaited),
+            _ => None,
+        };
+        Arrival::Reply {
+            payload,
+            next,
+            progress,
+            behind: self.holds_bytes(),
+        }
+    }
+
+    /// Some byte of the link isn't read.
+    fn holds_bytes(&self) -> bool
+        ensures { result ≡ is_some_byte self.now.stream.held }
+    {
+        self.stream.held() > 0
+    }
 }
