@@ -1,3 +1,10 @@
 -- what is read of one link, and the table of links
 pub mod LinkLemmas
 pub mod TableLemmas
+-- what is true of every legal record
+pub mod RecordLemmas
+-- what code makes of its state is the state of the record with one item more
+pub mod BeginLemmas
+pub mod MirrorLemmas
+-- each kind of step makes the item that is due
+pub mod TryLemmas

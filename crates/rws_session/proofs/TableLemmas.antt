@@ -2,7 +2,8 @@
 use Rattle.std.proofs.Common.{◌≡◌, ℕ, Bool, true, false, List, [], ◌∷◌, map, refl, sym, ap, subst, ◌∙◌, Option, Some, None, Result, IfOk, eq-eqb, ne_eqb, eqb-true}
 use Rattle.std.proofs.lemmas.Bool.{eqb-false}
 use Rattle.std.proofs.lemmas.Result.{IfOk-weaker}
-use Rattle.std.specs.Prelude.{◌==◌, if◌then◌else◌}
+use Rattle.std.specs.Prelude.{◌==◌, ◌||◌, if◌then◌else◌}
+use Rattle.std.specs.List.{list_any}
 use Rattle.rws_record.specs.Item.{Item}
 use Rattle.rws_record.specs.Values.{contains, exchange, link_held, link_fault}
 use Rattle.rws_record.specs.Rules.{arrival, due_arrival}
@@ -95,3 +96,13 @@ read_behind past (number ∷ rest) link new others behind are distinct sound rea
         let differ : (number == found.0) ≡ false = ne_eqb number found.0 (λ same.
             let has : contains number rest ≡ true = rw (← same) at there.1 in let not_there = distinct.0 in absurd cc) in
         (rw r.0 there.0, rw differ there.1, both (r.1 ∙ sym (other_link past found.0 found.1 number differ)) there.2)
+
+-- a link of this number is there
+pub has_is : (past : List Item) (number : ℕ) (links : List ℕ)
+    → list_any (λ (link : Link). link.number == number) (map (link_of past) links) ≡ contains number links
+has_is past number [] = refl
+has_is past number (link ∷ others) = rw (has_is past number others) (by_test (link == number))
+  where
+    by_test : (test : Bool) → (test || contains number others) ≡ (if test then true else contains number others)
+    by_test true = refl
+    by_test false = refl

@@ -2,5 +2,6 @@
 pub mod State
 pub mod Kept
 pub mod Table
+pub mod Steps
 -- a turn
 pub mod Turning

@@ -16,9 +16,6 @@ at number change [] = []
 at number change (link ∷ others) =
     if number == link.number then change link ∷ others else link ∷ at number change others
 
-abbrev pub numbers : List Link → List ℕ
-numbers links = map (λ link. link.number) links
-
 abbrev pub without_number : ℕ → List Link → List Link
 without_number number links = filter (λ link. not (link.number == number)) links
 

@@ -5,5 +5,7 @@ mod input;
 mod link;
 mod links;
 mod owing;
+mod session;
 
 pub use input::SessionInput;
+pub use session::Session;

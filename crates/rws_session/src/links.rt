@@ -5,9 +5,8 @@ ghost use Rattle.std.specs.Prelude.{◌≡◌, ◌==◌, ◌∷◌, [], List, �
 ghost use Rattle.std.specs.List.{list_any};
 ghost use Rattle.rws_config.specs.declared.limits.TheConstants.{SERVER_PAYLOAD};
 ghost use Rattle.rws_record.specs.Item.{Item};
-ghost use Rattle.rws_record.specs.Values.{contains};
 ghost use Rattle.rws_session.specs.State.{link_of};
-ghost use Rattle.rws_session.specs.Table.{at, fed, owing, numbers, without_number, AreDistinct, AreSound, ReadsFirst};
+ghost use Rattle.rws_session.specs.Table.{at, fed, owing, without_number, AreDistinct, AreSound, ReadsFirst};
 
 use crate::link::{Arrival, Awaited, Link};
 use rws_config::SERVER_PAYLOAD;

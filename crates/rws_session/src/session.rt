@@ -1,0 +1,136 @@
+//! A session, and what it keeps of its record.
+//!
+//! Between any two steps its state is that of its record (`state_of` of specs/State.antt), also while outputs are owed.
+ghost use Rattle.std.specs.Prelude.{◌≡◌, ◌∷◌, List, [], Some, None, IfOk, OnOk, MatchOption, ◌==◌};
+ghost use Rattle.std.specs.List.{list_any};
+
+mod giving;
+mod steps;
+
+use crate::links::LinkTable;
+use crate::owing::Out;
+use rws_board::Action;
+use rws_config::Config;
+use rws_record::Command;
+use rws_wire::Deframer;
+use std::alloc::{AllocError, Global};
+use std::collections::VecDeque;
+use std::marker::Model;
+
+/// One client's session in the command phase, kept on one link to a server.
+///
+/// It answers what it can by itself, passes commands on and replies back, and gives up with a reason where it can't go on.
+/// What it gives out waits to be fetched by [`Session::next_out`]; before a turn all of it is to be fetched. After want of
+/// memory the session is of no more use.
+#[derive(Drop)]
+pub struct Session {
+    alloc: Global,
+    number: u32,
+    /// What was given out and isn't fetched yet.
+    outs: VecDeque<Action>,
+    /// What the client sent.
+    client: Deframer,
+    links: LinkTable,
+    /// The link that the session is kept on.
+    kept_on: Option<u64>,
+    /// The command that isn't answered yet, whole: it may have to be sent again.
+    pending: Option<Command>,
+    /// The link on which it was sent.
+    sent_on: Option<u64>,
+    /// The link from which the client has a part of its reply.
+    told_from: Option<u64>,
+    /// The number of the packet that the client gets next in its reply.
+    reply_number: u8,
+    /// The session is closed, or its client is gone.
+    over: bool,
+    /// What is to be given out before anything else is done.
+    owed: VecDeque<Out>,
+}
+
+impl Model for Session {
+    ghost use Rattle.std.specs.Prelude.{map, Some};
+    ghost use Rattle.rws_session.specs.Kept.{Kept};
+
+    ghost Value = { Kept };
+
+    ghost view = { λ s. record {
+      number = s.number;
+      outs = s.outs.items;
+      state = record {
+        client = s.client;
+        links = s.links;
+        kept_on = s.kept_on;
+        pending = s.pending;
+        sent_on = s.sent_on;
+        told_from = s.told_from;
+        reply_number = s.reply_number;
+        over = s.over;
+        owed = map Some s.owed.items;
+      };
+    } };
+}
+
+impl Session {
+    ghost use Rattle.rws_config.specs.declared.config.Config.{Config};
+    ghost use Rattle.rws_record.specs.Item.{Item};
+    ghost use Rattle.rws_record.specs.Item.Item.{Began};
+    ghost use Rattle.rws_record.specs.Values.{contains, is_over, links};
+    ghost use Rattle.rws_session.specs.Kept.{Kept, Stands};
+
+    /// A session in the command phase, kept on a ready link to a server of the settings.
+    pub fn begin(alloc: Global, number: u32, server: u8, link: u64, config: &Config) -> Result<Session, AllocError>
+        ensures { IfOk result (λ s. (s.number ≡ number) × (s.outs ≡ []) × Stands config.now s (Began link server ∷ [])) }
+    {
+        Ok(Session {
+            alloc,
+            number,
+            outs: VecDeque::new(alloc),
+            client: Deframer::new(alloc, config.command_bytes),
+            links: LinkTable::begin(alloc, link, server)?,
+            kept_on: Some(link),
+            pending: None,
+            sent_on: None,
+            told_from: None,
+            reply_number: 0,
+            over: false,
+            owed: VecDeque::new(alloc),
+        })
+    }
+
+    /// The oldest output that isn't fetched yet.
+    pub fn next_out(&mut self) -> Option<Action>
+        ensures fetched { MatchOption result ((self.old.outs ≡ []) × (self.new ≡ self.old))
+            (λ action. (self.old.outs ≡ action ∷ self.new.outs) × (self.new ≡ record self.old { outs = self.new.outs })) }
+        ensures stands { (config : Config) (past : List Item) → Stands config self.old past → Stands config self.new past }
+    {
+        self.outs.pop_front()
+    }
+
+    /// The session has this link: it was opened for it, and neither lost nor given up.
+    pub fn has_link(&self, link: u64) -> bool
+        ensures { (config : Config) (past : List Item) → Stands config self.now past → result ≡ contains link (links past) }
+    {
+        self.has(link)
+    }
+
+    /// The same, said of what is kept.
+    fn has(&self, number: u64) -> bool
+        ensures { result ≡ list_any (λ link. link.number == number) self.now.state.links }
+    {
+        self.links.has(number)
+    }
+
+    /// The session was closed, or its client is gone.
+    pub fn is_over(&self) -> bool
+        ensures { (config : Config) (past : List Item) → Stands config self.now past → result ≡ is_over past }
+    {
+        self.ended()
+    }
+
+    /// The same, said of what is kept.
+    fn ended(&self) -> bool
+        ensures { result ≡ self.now.state.over }
+    {
+        self.over
+    }
+}

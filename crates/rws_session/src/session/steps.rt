@@ -1,0 +1,333 @@
+//! The steps of a session: each kind is tried, and goes where it is due.
+//!
+//! What is owed comes first. Where nothing is owed and the session isn't over, the pending command is sent, then what came on
+//! the links is read, and then the client's next command is taken up.
+ghost use Rattle.std.specs.Prelude.{◌≡◌, ◌∷◌, ◌++◌, ℕ, List, [], false, map, Some, None, IfOk, OnOk, MatchOption, ◌&&◌, is_some, is_none};
+ghost use Rattle.rws_wire.specs.Deframing.{HandsOut};
+ghost use Rattle.rws_config.specs.declared.config.Config.{Config};
+ghost use Rattle.rws_record.specs.Item.{Item};
+ghost use Rattle.rws_record.specs.Item.Put.{Tells, Closes};
+ghost use Rattle.rws_record.specs.Item.Tell.{Refuses};
+ghost use Rattle.rws_record.specs.Judging.{judged};
+ghost use Rattle.rws_record.specs.Values.{is_over, links};
+ghost use Rattle.rws_record.specs.Rules.{after_fault, due_arrival, due_send, due_take, next, owed, unasked};
+ghost use Rattle.rws_session.specs.State.{erased, link_of};
+ghost use Rattle.rws_session.specs.Table.{AreDistinct, AreSound, ReadsFirst};
+ghost use Rattle.rws_session.specs.Kept.{Is};
+ghost use Rattle.rws_session.specs.Steps.{SendsPending, Tries, due_put, owes, owes_for, owes_reply, sendable_by, takes};
+
+use crate::link::{Arrival, Awaited};
+use crate::owing::Out;
+use crate::session::Session;
+use rws_board::Action;
+use rws_msgs::status::AUTOCOMMIT;
+use rws_record::{Command, ProxyError, Request};
+use rws_reply::{Kind, Progress, ReplyTracker};
+use rws_wire::{CloseReason, DropCause, NextError, Payload, Text, WireFault, frame};
+use std::alloc::AllocError;
+
+/// The status of the proxy's own OKs: autocommit is on, and no transaction is open.
+const OWN_STATUS: u16 = AUTOCOMMIT;
+
+impl Session {
+    /// Makes the next step, and says whether there was one.
+    pub(super) fn step(&mut self) -> Result<bool, AllocError>
+        ensures { (config : Config) (past : List Item) → Is config self.old past
+            → IfOk result (λ went. Tries config (next config past) past went self.old self.new) }
+    {
+        if self.pay()? {
+            return Ok(true);
+        }
+        if self.ended() {
+            return Ok(false);
+        }
+        if self.send()? {
+            return Ok(true);
+        }
+        if self.read_links()? {
+            return Ok(true);
+        }
+        self.take_up()
+    }
+
+    /// Gives out what is owed first.
+    fn pay(&mut self) -> Result<bool, AllocError>
+        ensures { (config : Config) (past : List Item) → Is config self.old past
+            → IfOk result (λ went. Tries config (due_put (owed past)) past went self.old self.new) }
+    {
+        match self.next_owed() {
+            None => Ok(false),
+            Some(out) => {
+                self.give(out)?;
+                Ok(true)
+            }
+        }
+    }
+
+    /// What is owed first, which is owed no longer.
+    fn next_owed(&mut self) -> Option<Out>
+        ensures { MatchOption result ((self.old.state.owed ≡ []) × (self.new ≡ self.old))
+            (λ out. (self.old.state.owed ≡ Some out ∷ self.new.state.owed)
+            × (self.new ≡ record self.old { state = record self.old.state { owed = self.new.state.owed } })) }
+    {
+        self.owed.pop_front()
+    }
+
+    /// Sends the pending command, where it isn't sent yet.
+    fn send(&mut self) -> Result<bool, AllocError>
+        ensures { (config : Config) (past : List Item) → Is config self.old past → owed past ≡ []
+            → IfOk result (λ went. Tries config (due_send past) past went self.old self.new) }
+    {
+        match self.sendable() {
+            None => Ok(false),
+            Some(link) => {
+                self.send_pending(link)?;
+                Ok(true)
+            }
+        }
+    }
+
+    /// The link that the pending command is to be sent on: that which the session is kept on, if it has it.
+    fn sendable(&self) -> Option<u64>
+        ensures { result ≡ sendable_by self.now.state.pending self.now.state.sent_on self.now.state.kept_on self.now.state.links }
+    {
+        let link = self.kept_on?;
+        if !self.is_unsent() {
+            return None;
+        }
+        if !self.has(link) {
+            return None;
+        }
+        Some(link)
+    }
+
+    /// A command is pending that isn't sent yet.
+    fn is_unsent(&self) -> bool
+        ensures { result ≡ (is_some self.now.state.pending && is_none self.now.state.sent_on) }
+    {
+        self.pending.is_some() && self.sent_on.is_none()
+    }
+
+    /// Sends the pending command on a link.
+    fn send_pending(&mut self, link: u64) -> Result<(), AllocError>
+        ensures { OnOk result (SendsPending link self.old.state.pending self.old self.new) }
+    {
+        let Some(command) = &self.pending else {
+            return Ok(());
+        };
+        let mut bytes = Vec::new(self.alloc);
+        let next = frame(command.payload.as_slice(), 0, &mut bytes)?;
+        let tracker = ReplyTracker::new(command.kind);
+        self.outs.push_back(Action::ToLink {
+            link,
+            bytes: Text::new(bytes),
+        })?;
+        self.links.ask(link, Awaited { next, tracker });
+        self.sent_on = Some(link);
+        Ok(())
+    }
+
+    /// Reads what came on the links, in order of number, up to the first thing that is whole.
+    fn read_links(&mut self) -> Result<bool, AllocError>
+        ensures { (config : Config) (past : List Item) → Is config self.old past → owed past ≡ []
+            → IfOk result (λ went. Tries config (due_arrival (links past) past) past went self.old self.new) }
+    {
+        match self.next_arrival()? {
+            None => Ok(false),
+            Some((link, arrival)) => {
+                self.take_arrival(link, arrival)?;
+                Ok(true)
+            }
+        }
+    }
+
+    /// What the links' bytes complete first, and on which link.
+    fn next_arrival(&mut self) -> Result<Option<(u64, Arrival)>, AllocError>
+        ensures reads { (past : List Item) (numbers : List ℕ) → self.old.state.links ≡ map (link_of past) numbers → AreDistinct numbers
+            → AreSound past numbers → IfOk result (λ found. ReadsFirst past numbers found self.new.state.links) }
+        ensures rest { self.new ≡ record self.old { state = record self.old.state { links = self.new.state.links } } }
+    {
+        self.links.read()
+    }
+
+    /// Decides what follows on what a link's bytes completed.
+    fn take_arrival(&mut self, link: u64, arrival: Arrival) -> Result<(), AllocError>
+        ensures { OnOk result (self.new ≡ record self.old { state = record self.old.state {
+          owed = owes_for link arrival self.old.state.reply_number ++ self.old.state.owed;
+        } }) }
+    {
+        match arrival {
+            Arrival::Stray => self.owe(Out::Drop {
+                link,
+                cause: DropCause::Unasked,
+            }),
+            Arrival::Garbled(_) => self.owe(Out::Drop {
+                link,
+                cause: DropCause::BadWire,
+            }),
+            Arrival::Reply {
+                payload,
+                next: _,
+                progress,
+                behind,
+            } => self.take_reply(link, payload, progress, behind),
+        }
+    }
+
+    /// Decides what follows on a payload of the pending command's reply.
+    fn take_reply(&mut self, link: u64, payload: Text, progress: Option<Progress>, behind: bool) -> Result<(), AllocError>
+        ensures { OnOk result (self.new ≡ record self.old { state = record self.old.state {
+          owed = owes_reply link payload progress behind self.old.state.reply_number ++ self.old.state.owed;
+        } }) }
+    {
+        let number = self.reply_number;
+        match progress {
+            None => self.owe(Out::Drop {
+                link,
+                cause: DropCause::BadReply,
+            }),
+            Some(Progress::More) => self.owe(Out::Pass {
+                number,
+                link,
+                payload,
+                outcome: None,
+            }),
+            Some(Progress::Whole(outcome)) => {
+                self.owe_unasked(link, behind)?;
+                self.owe(Out::Pass {
+                    number,
+                    link,
+                    payload,
+                    outcome: Some(outcome),
+                })
+            }
+        }
+    }
+
+    /// A byte behind a whole reply costs the link.
+    fn owe_unasked(&mut self, link: u64, behind: bool) -> Result<(), AllocError>
+        ensures { OnOk result (self.new ≡ record self.old { state = owes (unasked link behind) self.old.state }) }
+    {
+        if behind {
+            return self.owe(Out::Drop {
+                link,
+                cause: DropCause::Unasked,
+            });
+        }
+        Ok(())
+    }
+
+    /// Takes up the client's next command, or the fault of its packets, where none is pending.
+    fn take_up(&mut self) -> Result<bool, AllocError>
+        ensures { (config : Config) (past : List Item) → Is config self.old past → owed past ≡ [] → is_over past ≡ false
+            → IfOk result (λ went. Tries config (due_take config past) past went self.old self.new) }
+    {
+        if self.is_busy() {
+            return Ok(false);
+        }
+        match self.next_command() {
+            Ok(None) => Ok(false),
+            Ok(Some(Payload { bytes, next })) => {
+                self.take(bytes, next)?;
+                Ok(true)
+            }
+            Err(NextError::Fault(fault)) => {
+                self.take_fault(fault)?;
+                Ok(true)
+            }
+            Err(NextError::OutOfMemory) => Err(AllocError),
+        }
+    }
+
+    /// A command is pending.
+    fn is_busy(&self) -> bool
+        ensures { result ≡ is_some self.now.state.pending }
+    {
+        self.pending.is_some()
+    }
+
+    /// The next payload of the client's stream.
+    fn next_command(&mut self) -> Result<Option<Payload>, NextError>
+        ensures hands_out { HandsOut self.old.state.client 0 result self.new.state.client }
+        ensures rest { self.new ≡ record self.old { state = record self.old.state { client = self.new.state.client } } }
+    {
+        self.client.next_payload(0)
+    }
+
+    /// Takes up a command, whose reply begins with the packet number `number`.
+    fn take(&mut self, payload: Text, number: u8) -> Result<(), AllocError>
+        ensures { OnOk result (self.new ≡ record self.old { state = takes (judged payload number) number self.old.state }) }
+    {
+        self.begin_reply(number);
+        match Request::of(payload.as_slice()) {
+            Request::Quit => self.owe(Out::Close {
+                reason: CloseReason::Quit,
+            }),
+            Request::Ping => self.owe(Out::Own {
+                number,
+                status: OWN_STATUS,
+            }),
+            Request::Query => {
+                self.serve(Kind::Query, payload, number);
+                Ok(())
+            }
+            Request::FieldList => {
+                self.serve(Kind::FieldList, payload, number);
+                Ok(())
+            }
+            Request::Unsupported => self.owe(Out::Refuse {
+                number,
+                error: ProxyError::NotSupported,
+            }),
+            Request::Unknown => self.owe(Out::Refuse {
+                number,
+                error: ProxyError::UnknownCommand,
+            }),
+        }
+    }
+
+    /// The client is told nothing yet of a new command's reply.
+    fn begin_reply(&mut self, number: u8)
+        ensures { self.new ≡ record self.old { state = record self.old.state { sent_on = None; told_from = None; reply_number = number } } }
+    {
+        self.sent_on = None;
+        self.told_from = None;
+        self.reply_number = number;
+    }
+
+    /// A command is one that a server is to answer.
+    fn serve(&mut self, kind: Kind, payload: Text, number: u8)
+        ensures { self.new ≡ record self.old { state = record self.old.state {
+          pending = Some (record { payload = payload; kind = kind; number = number });
+        } } }
+    {
+        self.pending = Some(Command {
+            payload,
+            kind,
+            number,
+        });
+    }
+
+    /// The client's packets can't be read on.
+    fn take_fault(&mut self, fault: WireFault) -> Result<(), AllocError>
+        ensures { OnOk result (self.new ≡ record self.old { state = owes (after_fault fault) self.old.state }) }
+    {
+        match fault {
+            WireFault::OutOfOrder { want, got } => self.break_off(
+                ProxyError::PacketsOutOfOrder,
+                CloseReason::OutOfOrder { want, got },
+            ),
+            WireFault::TooLarge { length } => {
+                self.break_off(ProxyError::CommandTooLarge, CloseReason::TooLarge { length })
+            }
+        }
+    }
+
+    /// The client is told an error in a packet of number 1, and the session closed.
+    fn break_off(&mut self, error: ProxyError, reason: CloseReason) -> Result<(), AllocError>
+        ensures { OnOk result (self.new ≡ record self.old { state = owes (Tells 1 (Refuses error) ∷ Closes reason ∷ []) self.old.state }) }
+    {
+        self.owe(Out::Close { reason })?;
+        self.owe(Out::Refuse { number: 1, error })
+    }
+}
