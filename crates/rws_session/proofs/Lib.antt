@@ -8,3 +8,5 @@ pub mod BeginLemmas
 pub mod MirrorLemmas
 -- each kind of step makes the item that is due
 pub mod TryLemmas
+-- a whole turn
+pub mod TurnLemmas

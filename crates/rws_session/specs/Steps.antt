@@ -19,9 +19,10 @@ use Rattle.rws_record.specs.Item.Item.{Puts}
 use Rattle.rws_record.specs.Item.Judged.{Serves}
 use Rattle.rws_record.specs.Item.Purpose.{Asks}
 use Rattle.rws_record.specs.Values.{asked}
-use Rattle.rws_record.specs.Rules.{is_link, Loss, loss_by, sends_again, has_transaction, is_replayable, after_loss_by, is_loss, after_command, unasked}
+use Rattle.rws_record.specs.Rules.{is_link, Loss, loss_by, sends_again, has_transaction, is_replayable, after_loss_by, is_loss, after_command, next, unasked}
+use Rattle.rws_record.specs.Record.{GoesOn}
 use Rattle.rws_record.specs.Errors.{error_of}
-use Rattle.rws_record.specs.Outputs.{own_ok, outs_of}
+use Rattle.rws_record.specs.Outputs.{actions_of, own_ok, outs_of}
 use Rattle.rws_session.specs.declared.link.Arrival.{Arrival}
 use Rattle.rws_session.specs.declared.link.Arrival.TheVariants as arrivals
 use Rattle.rws_session.specs.declared.link.Link.{Link}
@@ -29,7 +30,7 @@ use Rattle.rws_session.specs.declared.owing.Out.{Out}
 use Rattle.rws_session.specs.declared.owing.Out.TheVariants as outs
 use Rattle.rws_session.specs.State.{State, erased, awaited_of, state_of}
 use Rattle.rws_session.specs.Table.{at, owing, without_number}
-use Rattle.rws_session.specs.Kept.{Kept}
+use Rattle.rws_session.specs.Kept.{Is, Kept}
 
 -- What is given out
 
@@ -161,3 +162,26 @@ Tries config due past false old new = (due ≡ None) × (new ≡ old)
 abbrev pub due_put : List Put → Option Item
 due_put [] = None
 due_put (put ∷ others) = Some (Puts put)
+
+-- A whole turn
+
+-- an input was heard: it is the record's newest item, and nothing went out
+abbrev pub Hears : Config → Option Item → List Item → Bool → Kept → Kept → Type 0
+Hears config (Some item) past true old new = (new.number ≡ old.number) × (new.outs ≡ old.outs) × Is config new (item ∷ past)
+Hears config None past false old new = new ≡ old
+Hears config item past went old new = ⊥
+
+-- the session went on from a record by steps of its own, and what they gave out is there
+pub record Goes (config : Config) (past : List Item) (old new : Kept) : Type 0 where
+  pub reached : List Item
+  pub went_on : GoesOn config past reached
+  pub is : Is config new reached
+  pub number : new.number ≡ old.number
+  pub more : List Action
+  pub given : actions_of old.number reached ≡ actions_of old.number past ++ more
+  pub waits : new.outs ≡ old.outs ++ more
+
+-- and now it rests
+pub record Rests (config : Config) (past : List Item) (old new : Kept) : Type 0 where
+  pub goes : Goes config past old new
+  pub rests : next config goes.reached ≡ None

@@ -5,8 +5,10 @@ ghost use Rattle.std.specs.Prelude.{◌≡◌, ◌∷◌, List, [], Some, None, 
 ghost use Rattle.std.specs.List.{list_any};
 
 mod giving;
+mod hearing;
 mod steps;
 
+use crate::SessionInput;
 use crate::links::LinkTable;
 use crate::owing::Out;
 use rws_board::Action;
@@ -75,7 +77,9 @@ impl Session {
     ghost use Rattle.rws_record.specs.Item.{Item};
     ghost use Rattle.rws_record.specs.Item.Item.{Began};
     ghost use Rattle.rws_record.specs.Values.{contains, is_over, links};
-    ghost use Rattle.rws_session.specs.Kept.{Kept, Stands};
+    ghost use Rattle.rws_session.specs.Kept.{Is, Kept, Stands};
+    ghost use Rattle.rws_session.specs.Turning.{Turns, heard};
+    ghost use Rattle.rws_session.specs.Steps.{Rests};
 
     /// A session in the command phase, kept on a ready link to a server of the settings.
     pub fn begin(alloc: Global, number: u32, server: u8, link: u64, config: &Config) -> Result<Session, AllocError>
@@ -95,6 +99,31 @@ impl Session {
             over: false,
             owed: VecDeque::new(alloc),
         })
+    }
+
+    /// One turn: the session hears the input, and goes on until it rests. Before a turn all that was given out is to be
+    /// fetched. `Err` is want of memory; a turn of 2^64 steps would end so too, which nobody lives to see.
+    pub fn turn(&mut self, input: SessionInput) -> Result<(), AllocError>
+        requires { self.old.outs ≡ [] }
+        ensures { (config : Config) (past : List Item) → Stands config self.old past
+            → OnOk result (Turns config (heard input past) past self.old self.new) }
+    {
+        if self.hear(input)? {
+            return self.settle();
+        }
+        Ok(())
+    }
+
+    /// Goes on until the session rests.
+    fn settle(&mut self) -> Result<(), AllocError>
+        ensures { (config : Config) (past : List Item) → Is config self.old past → OnOk result (Rests config past self.old self.new) }
+    {
+        for _ in 0..u64::MAX {
+            if !self.step()? {
+                return Ok(());
+            }
+        }
+        Err(AllocError)
     }
 
     /// The oldest output that isn't fetched yet.

@@ -1,0 +1,83 @@
+//! What comes to a session from outside changes what it keeps here, and nowhere else.
+ghost use Rattle.std.specs.Prelude.{◌≡◌, ◌++◌, List, IfOk, OnOk};
+ghost use Rattle.rws_config.specs.declared.config.Config.{Config};
+ghost use Rattle.rws_record.specs.Item.{Item};
+ghost use Rattle.rws_session.specs.Table.{at, fed};
+ghost use Rattle.rws_session.specs.Kept.{Stands};
+ghost use Rattle.rws_session.specs.Turning.{heard};
+ghost use Rattle.rws_session.specs.Steps.{Hears, ends, loses};
+
+use crate::SessionInput;
+use crate::session::Session;
+use std::alloc::AllocError;
+
+impl Session {
+    /// Takes an input in, and says whether it was heard: a session that is over hears nothing, and a link that it doesn't
+    /// have is none of its business.
+    pub(super) fn hear(&mut self, input: SessionInput) -> Result<bool, AllocError>
+        ensures { (config : Config) (past : List Item) → Stands config self.old past
+            → IfOk result (λ went. Hears config (heard input past) past went self.old self.new) }
+    {
+        if self.ended() {
+            return Ok(false);
+        }
+        match input {
+            SessionInput::Client(bytes) => {
+                self.feed_client(bytes.as_slice())?;
+                Ok(true)
+            }
+            SessionInput::ClientGone => {
+                self.leave()?;
+                Ok(true)
+            }
+            SessionInput::Link { link, bytes } => {
+                if !self.has(link) {
+                    return Ok(false);
+                }
+                self.feed_link(link, bytes.as_slice())?;
+                Ok(true)
+            }
+            SessionInput::LinkGone { link } => {
+                if !self.has(link) {
+                    return Ok(false);
+                }
+                self.lose_link(link)?;
+                Ok(true)
+            }
+        }
+    }
+
+    /// Puts bytes behind those that the client's stream holds.
+    fn feed_client(&mut self, bytes: &[u8]) -> Result<(), AllocError>
+        ensures { OnOk result (self.new ≡ record self.old { state = record self.old.state {
+          client = record self.old.state.client { held = self.old.state.client.held ++ bytes.now };
+        } }) }
+    {
+        self.client.feed(bytes)
+    }
+
+    /// Puts bytes behind those that a link's stream holds.
+    fn feed_link(&mut self, link: u64, bytes: &[u8]) -> Result<(), AllocError>
+        ensures { OnOk result (self.new ≡ record self.old { state = record self.old.state { links = at link (fed bytes.now) self.old.state.links } }) }
+    {
+        self.links.feed(link, bytes)
+    }
+
+    /// The client is gone: the session is over, and gives up its links.
+    fn leave(&mut self) -> Result<(), AllocError>
+        ensures { OnOk result (self.new ≡ record self.old { state = ends self.old.state }) }
+    {
+        self.owe_farewells()?;
+        self.finish();
+        Ok(())
+    }
+
+    /// The server closed a link.
+    fn lose_link(&mut self, link: u64) -> Result<(), AllocError>
+        ensures { OnOk result (self.new ≡ record self.old { state = loses link self.old.state }) }
+    {
+        self.owe_loss(link)?;
+        self.links.remove(link);
+        Ok(())
+    }
+}
