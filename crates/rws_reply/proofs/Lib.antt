@@ -6,3 +6,4 @@ pub mod RepliesRun
 pub mod RunsAreReplies
 -- what a tracker says
 pub mod ProgressLemmas
+pub mod RoleLemmas

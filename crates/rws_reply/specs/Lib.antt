@@ -1,6 +1,7 @@
 -- the grammar
 pub mod Payloads
 pub mod Replies
+pub mod Roles
 -- a tracker, and what it says
 pub mod Machine
 pub mod Tracking

@@ -4,12 +4,17 @@
 ghost use Rattle.std.specs.Prelude.{◌≡◌, List};
 ghost use Rattle.rws_reply.specs.declared.kind.Kind.{Kind};
 ghost use Rattle.rws_reply.specs.declared.kind.Outcome.{Outcome};
-ghost use Rattle.rws_reply.specs.Laws.{ProgressIsExact};
+ghost use Rattle.rws_reply.specs.Laws.{ProgressIsExact, RoleIsExact};
 ghost use Rattle.rws_reply.specs.Replies.{Payload, IsReply, Begins};
 
 /// What a tracker says at a payload is true of all payloads up to it, and it says so wherever it is.
 pub fn progress_is_exact()
     ensures { (kind : Kind) (payloads : List Payload) (payload : Payload) → ProgressIsExact kind payloads payload }
+{}
+
+/// What a tracker says that a payload is, is its role in the grammar; it says so wherever the payload may come.
+pub fn role_is_exact()
+    ensures { (kind : Kind) (payloads : List Payload) (payload : Payload) → RoleIsExact kind payloads payload }
 {}
 
 /// A list of payloads is a whole reply with one outcome at most, and then no reply begins with it and has more.

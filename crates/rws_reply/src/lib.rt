@@ -9,10 +9,12 @@ mod captured;
 mod kind;
 mod law;
 mod payload;
+mod role;
 #[cfg(test)]
 mod tests;
 mod tracker;
 
 pub use kind::{BadReply, Kind, Outcome, Progress};
-pub use law::{progress_is_exact, replies_end_once};
+pub use law::{progress_is_exact, replies_end_once, role_is_exact};
+pub use role::Role;
 pub use tracker::ReplyTracker;
