@@ -7,3 +7,6 @@ pub mod RunsAreReplies
 -- what a tracker says
 pub mod ProgressLemmas
 pub mod RoleLemmas
+-- the client's form
+pub mod FitLemmas
+pub mod ClientLemmas

@@ -1,5 +1,5 @@
 -- What a tracker takes each payload for is its role in the grammar.
-use Rattle.std.proofs.Common.{◌≡◌, ◌==◌, ◌↔◌, ℕ, suc, ◌-◌, Bool, true, false, cond, List, [], ◌∷◌, ◌++◌, length, refl, sym, ap, ◌∙◌, append_assoc, append-nil, Option, Some, None, is_none, is_some, slice_get}
+use Rattle.std.proofs.Common.{◌≡◌, ◌==◌, ◌↔◌, ℕ, suc, ◌-◌, Bool, true, false, cond, List, [], ◌∷◌, ◌++◌, length, refl, sym, ap, ◌∙◌, append_assoc, Option, Some, None, is_none, slice_get}
 use Rattle.std.specs.Prelude.{find}
 use Rattle.std.proofs.Math.Dec.{eqb-suc-zero}
 use Rattle.std.proofs.Math.Numerals.{sub-one}
@@ -8,8 +8,7 @@ use Rattle.rws_msgs.specs.ErrLayout.{err_code}
 use Rattle.rws_reply.specs.declared.kind.Kind.{Kind}
 use Rattle.rws_reply.specs.declared.kind.Kind.TheVariants as kinds
 use Rattle.rws_reply.specs.declared.kind.Outcome.{Outcome}
-use Rattle.rws_reply.specs.declared.kind.Outcome.TheVariants.{Done, Failed}
-use Rattle.rws_reply.specs.declared.kind.Progress.{Progress}
+use Rattle.rws_reply.specs.declared.kind.Outcome.TheVariants.{Done}
 use Rattle.rws_reply.specs.declared.role.Role.{Role}
 use Rattle.rws_reply.specs.declared.role.Role.TheVariants as roles
 use Rattle.rws_reply.specs.declared.awaits.Awaits.{Awaits}
@@ -20,7 +19,7 @@ use Rattle.rws_reply.specs.Payloads.{has_more_results, eof_status, column_count,
 use Rattle.rws_reply.specs.Replies as replies
 use Rattle.rws_reply.specs.Replies.{Payload, AreDefinitions, AreRows, IsHead, IsSimple, IsQuery, IsPart, IsPrepare, IsFieldList, IsReply}
 use Rattle.rws_reply.specs.Roles.{reads_as, definition_roles, row_roles, roles_of_head, roles_of_simple, roles_of_query, roles_of_part, roles_of_prepare, roles_of_field_list, roles_of}
-use Rattle.rws_reply.specs.Machine.{next, given, behind_result, to_columns, to_parameters, definition_or_eof, role_at, role_in, defined, Standing, Ended, Waits, Stuck, ended_with, proceed, run, first}
+use Rattle.rws_reply.specs.Machine.{next, given, to_columns, to_parameters, definition_or_eof, role_at, role_in, defined, Standing, Ended, Waits, Stuck, ended_with, proceed, run, first}
 use Rattle.rws_reply.specs.Tracking.{progress_of, progress, waiting, tracked, role}
 use Rattle.rws_reply.specs.Laws.{RoleIsExact}
 use Rattle.rws_reply.proofs.PayloadLemmas.{no_ok_in_err, no_eof_in_err, no_err_in_eof, no_err_in_prepared, no_ok_in_count, no_err_in_count, no_err_in_definition, no_eof_in_definition, no_err_in_row, no_eof_in_row}
@@ -160,8 +159,8 @@ head_told : {front : List Payload} (rest : List Payload) (front_is : IsHead fron
 head_told rest (replies.head count definitions eof {status} counted all e) =
     rw (no_ok_in_count count _ counted, no_err_in_count count _ counted, counted, append_assoc definitions (eof ∷ []) rest)
     (ap (λ (l : List Role). roles.Count ∷ l)
-        (definitions_told (λ left. Definitions left) (λ _. Goes Rows) (λ left p. refl) (λ left p. refl) definitions eof rest status all e
-        ∙ sym (append_assoc (definition_roles definitions) (roles.Eof ∷ []) (roles_told rest Rows))))
+    (definitions_told (λ left. Definitions left) (λ _. Goes Rows) (λ left p. refl) (λ left p. refl) definitions eof rest status all e
+    ∙ sym (append_assoc (definition_roles definitions) (roles.Eof ∷ []) (roles_told rest Rows))))
 
 result_told : {front : List Payload} (front_is : IsHead front) (rs rest : List Payload) (last : List Role) → AreRows rs → roles_told rest Rows ≡ last
     → roles_told (front ++ (rs ++ rest)) Query ≡ roles_of_head front_is ++ (row_roles rs ++ last)

@@ -80,12 +80,12 @@ first kinds.Query = Query
 first kinds.Prepare = Prepare
 first kinds.FieldList = FieldList
 
--- ---- what a payload is
+-- ---- what a payload is to a tracker
 
 abbrev pub definition_or_eof : ℕ → List Role
 definition_or_eof left = if left == 0 then roles.Eof ∷ [] else (roles.Definition ∷ [])
 
--- what may come where a tracker waits so; no payload can be read as two of them
+-- what may come where a tracker waits so
 abbrev pub expected : Awaits → List Role
 expected Simple = roles.Ok ∷ roles.Err ∷ []
 expected Query = roles.Ok ∷ roles.Err ∷ roles.Count ∷ []
@@ -97,6 +97,7 @@ expected (Columns left) = definition_or_eof left
 expected FieldList = roles.Err ∷ roles.Eof ∷ roles.Definition ∷ []
 expected Fields = roles.Eof ∷ roles.Definition ∷ []
 
+-- the first of these that the payload can be read as
 abbrev pub role_at : Awaits → Payload → Option Role
 role_at awaits payload = find (λ role. reads_as role payload) (expected awaits)
 

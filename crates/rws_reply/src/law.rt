@@ -4,6 +4,7 @@
 ghost use Rattle.std.specs.Prelude.{◌≡◌, List};
 ghost use Rattle.rws_reply.specs.declared.kind.Kind.{Kind};
 ghost use Rattle.rws_reply.specs.declared.kind.Outcome.{Outcome};
+ghost use Rattle.rws_reply.specs.ClientForm.{ClientRepliesAreReplies, ClientRepliesGrow};
 ghost use Rattle.rws_reply.specs.Laws.{ProgressIsExact, RoleIsExact};
 ghost use Rattle.rws_reply.specs.Replies.{Payload, IsReply, Begins};
 
@@ -21,4 +22,11 @@ pub fn role_is_exact()
 pub fn replies_end_once()
     ensures outcome { (kind : Kind) (payloads : List Payload) (a b : Outcome) → IsReply kind payloads a → IsReply kind payloads b → a ≡ b }
     ensures end { (kind : Kind) (payloads : List Payload) (out : Outcome) → IsReply kind payloads out → ¬ Begins kind payloads }
+{}
+
+/// The client's form of a whole reply is a whole reply of the same kind, and its outcome differs at most in the status bit
+/// 0x4000. It grows payload by payload, each in the form that it has by its role.
+pub fn client_replies_are_replies()
+    ensures whole { ClientRepliesAreReplies }
+    ensures grow { ClientRepliesGrow }
 {}

@@ -6,6 +6,7 @@
 mod awaits;
 #[cfg(test)]
 mod captured;
+mod client;
 mod kind;
 mod law;
 mod payload;
@@ -14,7 +15,8 @@ mod role;
 mod tests;
 mod tracker;
 
+pub use client::client_payload;
 pub use kind::{BadReply, Kind, Outcome, Progress};
-pub use law::{progress_is_exact, replies_end_once, role_is_exact};
+pub use law::{client_replies_are_replies, progress_is_exact, replies_end_once, role_is_exact};
 pub use role::Role;
 pub use tracker::ReplyTracker;

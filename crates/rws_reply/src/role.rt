@@ -28,7 +28,7 @@ pub enum Role {
     Row,
 }
 
-// Whether the payload can be read so.
+/// Whether the payload can be read so.
 fn reads_as(role: Role, payload: &[u8]) -> bool
     ensures { result ≡ reads_as role payload.now }
 {
@@ -43,7 +43,7 @@ fn reads_as(role: Role, payload: &[u8]) -> bool
     }
 }
 
-// What comes where so many definitions are left.
+/// What comes where so many definitions are left.
 fn definition_or_eof(left: u64) -> &'static [Role]
     ensures { result.now ≡ definition_or_eof left }
 {
@@ -54,7 +54,7 @@ fn definition_or_eof(left: u64) -> &'static [Role]
     }
 }
 
-// What may come there.
+/// What may come there.
 fn expected(awaits: Awaits) -> &'static [Role]
     ensures { result.now ≡ expected awaits }
 {
@@ -64,20 +64,22 @@ fn expected(awaits: Awaits) -> &'static [Role]
         Awaits::Definitions(left) => definition_or_eof(left),
         Awaits::Rows => &[Role::Eof, Role::Err, Role::Row],
         Awaits::Prepare => &[Role::Err, Role::Prepared],
-        Awaits::Parameters { left, .. } | Awaits::Columns(left) => definition_or_eof(u64::from(left)),
+        Awaits::Parameters { left, .. } | Awaits::Columns(left) => definition_or_eof(u64::from(
+            left,
+        )),
         Awaits::FieldList => &[Role::Err, Role::Eof, Role::Definition],
         Awaits::Fields => &[Role::Eof, Role::Definition],
     }
 }
 
-// The first of these roles that the payload can be read as.
+/// The first of these roles that the payload can be read as.
 fn first_read(roles: &[Role], payload: &[u8]) -> Option<Role>
     ensures { result ≡ find (λ role. reads_as role payload.now) roles.now }
 {
     roles.iter().copied().find(|role| reads_as(*role, payload))
 }
 
-// What the payload is for a tracker that waits so; None where the reply is whole or bad.
+/// What the payload is for a tracker that waits so; None where the reply is whole or bad.
 pub fn role_in(awaits: Option<Awaits>, payload: &[u8]) -> Option<Role>
     ensures { result ≡ role_in awaits payload.now }
 {

@@ -14,7 +14,7 @@ use std::marker::Model;
 /// After `Whole` or `BadReply` every further payload is `BadReply`: a new reply begins with a new tracker.
 #[derive(Drop)]
 pub struct ReplyTracker {
-    // None where the reply is whole or bad.
+    /// None where the reply is whole or bad.
     awaits: Option<Awaits>,
 }
 
