@@ -27,13 +27,15 @@ pub struct ExecuteHead {
     pub values: Text,
 }
 
+/// A COM_STMT_EXECUTE whose parts stand in bytes that another holds, so it is split and written without a copy. Its
+/// fields are those of `ExecuteHead`.
 #[derive(Clone, Copy)]
-struct Parts<'a> {
-    id: u32,
-    flags: u8,
-    bitmap: &'a [u8],
-    types: Option<&'a [u8]>,
-    values: &'a [u8],
+pub struct ExecuteParts<'a> {
+    pub id: u32,
+    pub flags: u8,
+    pub bitmap: &'a [u8],
+    pub types: Option<&'a [u8]>,
+    pub values: &'a [u8],
 }
 
 #[tactic(auto, unfolding(crate::specs::ExecuteLayout::once_at))]
@@ -91,23 +93,79 @@ fn values_of(parameters: u16, bytes: &[u8]) -> Result<Values<'_>, MsgFault>
     })
 }
 
-#[tactic(auto, unfolding(crate::specs::ExecuteLayout::execute_at))]
-fn parts_of(payload: &[u8], parameters: u16) -> Result<Parts<'_>, MsgFault>
-    ensures reads { Reads execute_of result (execute_at parameters payload.now) }
-    ensures is { IfOk result (λ parts. IsExecuteHead parameters (execute_of parts)) }
-{
-    let rest = fixed_at(0x17, payload)?;
-    let (id, rest) = u32_at(rest)?;
-    let (flags, rest) = u8_at(rest)?;
-    let behind = once_at(rest)?;
-    let given = values_of(parameters, behind)?;
-    Ok(Parts {
-        id,
-        flags,
-        bitmap: given.bitmap,
-        types: given.types,
-        values: given.values,
-    })
+impl<'a> ExecuteParts<'a> {
+    /// The parts of the execute in a payload, of a statement with so many parameters. It takes no memory.
+    #[tactic(auto, unfolding(crate::specs::ExecuteLayout::execute_at))]
+    pub fn split(payload: &'a [u8], parameters: u16) -> Result<ExecuteParts<'a>, MsgFault>
+        ensures reads { Reads execute_of result (execute_at parameters payload.now) }
+        ensures is { IfOk result (λ parts. IsExecuteHead parameters (execute_of parts)) }
+    {
+        let rest = fixed_at(0x17, payload)?;
+        let (id, rest) = u32_at(rest)?;
+        let (flags, rest) = u8_at(rest)?;
+        let behind = once_at(rest)?;
+        let given = values_of(parameters, behind)?;
+        Ok(ExecuteParts {
+            id,
+            flags,
+            bitmap: given.bitmap,
+            types: given.types,
+            values: given.values,
+        })
+    }
+
+    /// Appends the payload, as `ExecuteHead::encode` does. `Err` leaves `out` as it was.
+    pub fn encode(&self, out: &mut Vec<u8>) -> Result<(), AllocError>
+        ensures ok { OnOk result (out.new.items ≡ out.old.items ++ execute_bytes (execute_of self.now)) }
+        ensures err { OnErr result (out.new.items ≡ out.old.items) }
+        ensures fits { ExecuteFits (execute_of self.now) }
+    {
+        let before = out.len();
+        or_cut(self.put(out), before, out)
+    }
+
+    #[tactic(auto, unfolding(crate::specs::ExecuteLayout::execute_bytes))]
+    fn put(&self, out: &mut Vec<u8>) -> Result<(), AllocError>
+        ensures ok { OnOk result (out.new.items ≡ out.old.items ++ execute_bytes (execute_of self.now)) }
+        ensures err { OnErr result (take (length out.old.items) out.new.items ≡ out.old.items) }
+        ensures fits { ExecuteFits (execute_of self.now) }
+    {
+        let (id, flags) = (self.id, self.flags);
+        out.push(0x17)?;
+        put_u32(id, out)?;
+        out.extend_from_slice(&[flags, 0x01, 0x00, 0x00, 0x00])?;
+        self.put_values(out)
+    }
+
+    #[tactic(auto, unfolding(crate::specs::ExecuteLayout::values_bytes))]
+    fn put_values(&self, out: &mut Vec<u8>) -> Result<(), AllocError>
+        ensures ok { OnOk result (out.new.items ≡ out.old.items ++ values_bytes self.now.bitmap.now (execute_of self.now).types self.now.values.now) }
+        ensures err { OnErr result (take (length out.old.items) out.new.items ≡ out.old.items) }
+    {
+        if self.bitmap.is_empty() {
+            return Ok(());
+        }
+        out.extend_from_slice(self.bitmap)?;
+        self.put_types(out)?;
+        out.extend_from_slice(self.values)
+    }
+
+    #[tactic(auto, unfolding(crate::specs::ExecuteLayout::types_bytes))]
+    fn put_types(&self, out: &mut Vec<u8>) -> Result<(), AllocError>
+        ensures ok { OnOk result (out.new.items ≡ out.old.items ++ types_bytes (execute_of self.now).types) }
+        ensures err { OnErr result (take (length out.old.items) out.new.items ≡ out.old.items) }
+    {
+        match self.types {
+            None => {
+                out.push(0x00)?;
+                Ok(())
+            }
+            Some(types) => {
+                out.push(0x01)?;
+                out.extend_from_slice(types)
+            }
+        }
+    }
 }
 
 impl ExecuteHead {
@@ -117,7 +175,7 @@ impl ExecuteHead {
         ensures gives { Gives result (execute_at parameters payload.now) }
         ensures is { IfOk result (λ head. IsExecuteHead parameters head) }
     {
-        let parts = parts_of(payload, parameters)?;
+        let parts = ExecuteParts::split(payload, parameters)?;
         let types = match parts.types {
             Some(types) => Some(Text::from_slice(alloc, types)?),
             None => None,
@@ -143,50 +201,18 @@ impl ExecuteHead {
         ensures again { (parameters : ℕ) → IsExecuteHead parameters self.now
             → execute_at parameters (execute_bytes self.now) ≡ Ok self.now }
     {
-        let before = out.len();
-        or_cut(self.put(out), before, out)
+        self.parts().encode(out)
     }
 
-    #[tactic(auto, unfolding(crate::specs::ExecuteLayout::execute_bytes))]
-    fn put(&self, out: &mut Vec<u8>) -> Result<(), AllocError>
-        ensures ok { OnOk result (out.new.items ≡ out.old.items ++ execute_bytes self.now) }
-        ensures err { OnErr result (take (length out.old.items) out.new.items ≡ out.old.items) }
-        ensures fits { ExecuteFits self.now }
+    fn parts(&self) -> ExecuteParts<'_>
+        ensures { execute_of result ≡ self.now }
     {
-        let (id, flags) = (self.id, self.flags);
-        out.push(0x17)?;
-        put_u32(id, out)?;
-        out.extend_from_slice(&[flags, 0x01, 0x00, 0x00, 0x00])?;
-        self.put_values(out)
-    }
-
-    #[tactic(auto, unfolding(crate::specs::ExecuteLayout::values_bytes))]
-    fn put_values(&self, out: &mut Vec<u8>) -> Result<(), AllocError>
-        ensures ok { OnOk result (out.new.items ≡ out.old.items ++ values_bytes self.now.bitmap self.now.types self.now.values) }
-        ensures err { OnErr result (take (length out.old.items) out.new.items ≡ out.old.items) }
-    {
-        if self.bitmap.is_empty() {
-            return Ok(());
-        }
-        out.extend_from_slice(self.bitmap.as_slice())?;
-        put_types(&self.types, out)?;
-        out.extend_from_slice(self.values.as_slice())
-    }
-}
-
-#[tactic(auto, unfolding(crate::specs::ExecuteLayout::types_bytes))]
-fn put_types(types: &Option<Text>, out: &mut Vec<u8>) -> Result<(), AllocError>
-    ensures ok { OnOk result (out.new.items ≡ out.old.items ++ types_bytes types.now) }
-    ensures err { OnErr result (take (length out.old.items) out.new.items ≡ out.old.items) }
-{
-    match types {
-        None => {
-            out.push(0x00)?;
-            Ok(())
-        }
-        Some(types) => {
-            out.push(0x01)?;
-            out.extend_from_slice(types.as_slice())
+        ExecuteParts {
+            id: self.id,
+            flags: self.flags,
+            bitmap: self.bitmap.as_slice(),
+            types: self.types.as_ref().map(Text::as_slice),
+            values: self.values.as_slice(),
         }
     }
 }

@@ -18,7 +18,7 @@ mod writing;
 
 pub use eof_msg::EofMsg;
 pub use err_msg::{ErrMsg, err_code};
-pub use execute_head::ExecuteHead;
+pub use execute_head::{ExecuteHead, ExecuteParts};
 pub use fault::MsgFault;
 pub use greeting::Greeting;
 pub use ok_msg::{OkMsg, ok_status};
