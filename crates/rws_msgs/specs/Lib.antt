@@ -1,5 +1,11 @@
-pub mod Reading
+-- numbers that the protocol fixes
+pub mod Commands
+pub mod Statuses
+pub mod Capabilities
+-- fields, and what decoding answers
 pub mod Fields
+pub mod Decoding
+-- messages: each layout, and the message whose parts were read
 pub mod OkLayout
 pub mod OkParts
 pub mod ErrLayout

@@ -1,13 +1,15 @@
-// The call of a prepared statement.
+//! The call of a prepared statement ("COM_STMT_EXECUTE"). Its fields stand in one place or another by the number of
+//! parameters, which the message itself doesn't tell.
 ghost use Rattle.std.specs.Prelude.{◌≡◌, ◌++◌, ℕ, Ok, OnOk, OnErr, IfOk, length, take};
 ghost use Rattle.std.specs.Option.{option_map};
 ghost use Rattle.rws_msgs.specs.ExecuteLayout.{AreValues, ExecuteFits, HaveSize, IsExecuteHead, execute_at, execute_bytes, once_at, types_at, types_bytes, values_at, values_bytes};
 ghost use Rattle.rws_msgs.specs.ExecuteParts.{execute_of};
-ghost use Rattle.rws_msgs.specs.Reading.{Gives};
+ghost use Rattle.rws_msgs.specs.Decoding.{IsDecoded};
 ghost use Rattle.rws_wire.specs.Reading.{Reads};
 
 use crate::MsgFault;
-use crate::reading::{bytes_at, fixed_at, u8_at, u32_at};
+use crate::command::COM_STMT_EXECUTE;
+use crate::fields::{bytes_at, fixed_at, u8_at, u32_at};
 use crate::writing::{or_cut, put_u32};
 use rws_wire::Text;
 use std::alloc::{AllocError, Global};
@@ -31,13 +33,19 @@ pub struct ExecuteHead {
 /// fields are those of `ExecuteHead`.
 #[derive(Clone, Copy)]
 pub struct ExecuteParts<'a> {
+    /// The statement's id on its link.
     pub id: u32,
+    /// 0, or the kind of cursor that is asked for.
     pub flags: u8,
+    /// One bit a parameter: whether it is NULL.
     pub bitmap: &'a [u8],
+    /// Two bytes a parameter, where the types are sent along.
     pub types: Option<&'a [u8]>,
+    /// The values of the parameters that aren't NULL, one after another.
     pub values: &'a [u8],
 }
 
+/// What stands behind the number of iterations, which is 1.
 #[tactic(auto, unfolding(crate::specs::ExecuteLayout::once_at))]
 fn once_at(bytes: &[u8]) -> Result<&[u8], MsgFault>
     ensures { Reads (λ rest. rest.now) result (once_at bytes.now) }
@@ -48,6 +56,7 @@ fn once_at(bytes: &[u8]) -> Result<&[u8], MsgFault>
     fixed_at(0x00, rest)
 }
 
+/// The types, where the byte in front says that they follow, and the values behind them.
 #[tactic(auto, unfolding(crate::specs::ExecuteLayout::types_at))]
 fn types_of(parameters: u16, bytes: &[u8]) -> Result<(Option<&[u8]>, &[u8]), MsgFault>
     ensures reads { Reads (λ x. (option_map (λ types. types.now) x.0, x.1.now)) result (types_at parameters bytes.now) }
@@ -64,7 +73,7 @@ fn types_of(parameters: u16, bytes: &[u8]) -> Result<(Option<&[u8]>, &[u8]), Msg
     }
 }
 
-// The bitmap, the types and the values.
+/// The bitmap, the types and the values.
 #[derive(Clone, Copy)]
 struct Values<'a> {
     bitmap: &'a [u8],
@@ -72,6 +81,7 @@ struct Values<'a> {
     values: &'a [u8],
 }
 
+/// The bitmap, the types and the values, of which a statement without parameters has none.
 #[tactic(auto, unfolding(crate::specs::ExecuteLayout::values_at))]
 fn values_of(parameters: u16, bytes: &[u8]) -> Result<Values<'_>, MsgFault>
     ensures reads { Reads (λ v. (v.bitmap.now, (option_map (λ types. types.now) v.types, v.values.now))) result (values_at parameters bytes.now) }
@@ -100,7 +110,7 @@ impl<'a> ExecuteParts<'a> {
         ensures reads { Reads execute_of result (execute_at parameters payload.now) }
         ensures is { IfOk result (λ parts. IsExecuteHead parameters (execute_of parts)) }
     {
-        let rest = fixed_at(0x17, payload)?;
+        let rest = fixed_at(COM_STMT_EXECUTE, payload)?;
         let (id, rest) = u32_at(rest)?;
         let (flags, rest) = u8_at(rest)?;
         let behind = once_at(rest)?;
@@ -124,6 +134,7 @@ impl<'a> ExecuteParts<'a> {
         or_cut(self.put(out), before, out)
     }
 
+    /// Appends the payload; after an `Err` some of it may stand there.
     #[tactic(auto, unfolding(crate::specs::ExecuteLayout::execute_bytes))]
     fn put(&self, out: &mut Vec<u8>) -> Result<(), AllocError>
         ensures ok { OnOk result (out.new.items ≡ out.old.items ++ execute_bytes (execute_of self.now)) }
@@ -131,12 +142,13 @@ impl<'a> ExecuteParts<'a> {
         ensures fits { ExecuteFits (execute_of self.now) }
     {
         let (id, flags) = (self.id, self.flags);
-        out.push(0x17)?;
+        out.push(COM_STMT_EXECUTE)?;
         put_u32(id, out)?;
         out.extend_from_slice(&[flags, 0x01, 0x00, 0x00, 0x00])?;
         self.put_values(out)
     }
 
+    /// Appends the bitmap, the types and the values.
     #[tactic(auto, unfolding(crate::specs::ExecuteLayout::values_bytes))]
     fn put_values(&self, out: &mut Vec<u8>) -> Result<(), AllocError>
         ensures ok { OnOk result (out.new.items ≡ out.old.items ++ values_bytes self.now.bitmap.now (execute_of self.now).types self.now.values.now) }
@@ -150,6 +162,7 @@ impl<'a> ExecuteParts<'a> {
         out.extend_from_slice(self.values)
     }
 
+    /// Appends the byte that says whether types follow, and the types.
     #[tactic(auto, unfolding(crate::specs::ExecuteLayout::types_bytes))]
     fn put_types(&self, out: &mut Vec<u8>) -> Result<(), AllocError>
         ensures ok { OnOk result (out.new.items ≡ out.old.items ++ types_bytes (execute_of self.now).types) }
@@ -172,7 +185,7 @@ impl ExecuteHead {
     /// The execute in a payload, of a statement with so many parameters.
     #[tactic(auto, using(crate::proofs::MemoryLemmas::execute_never))]
     pub fn decode(alloc: Global, payload: &[u8], parameters: u16) -> Result<ExecuteHead, MsgFault>
-        ensures gives { Gives result (execute_at parameters payload.now) }
+        ensures gives { IsDecoded result (execute_at parameters payload.now) }
         ensures is { IfOk result (λ head. IsExecuteHead parameters head) }
     {
         let parts = ExecuteParts::split(payload, parameters)?;
@@ -204,6 +217,7 @@ impl ExecuteHead {
         self.parts().encode(out)
     }
 
+    /// The same fields, looked at.
     fn parts(&self) -> ExecuteParts<'_>
         ensures { execute_of result ≡ self.now }
     {

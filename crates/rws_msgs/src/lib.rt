@@ -3,14 +3,15 @@
 #![tactic(auto)]
 
 pub mod capability;
+pub mod command;
 mod eof_msg;
 mod err_msg;
 mod execute_head;
 mod fault;
+mod fields;
 mod greeting;
 mod ok_msg;
 mod prepare_ok;
-mod reading;
 mod response;
 pub mod status;
 mod switch;
@@ -20,10 +21,10 @@ pub use eof_msg::EofMsg;
 pub use err_msg::{ErrMsg, err_code};
 pub use execute_head::{ExecuteHead, ExecuteParts};
 pub use fault::MsgFault;
+pub use fields::split_text;
 pub use greeting::Greeting;
 pub use ok_msg::{OkMsg, ok_status};
 pub use prepare_ok::PrepareOk;
-pub use reading::split_text;
 pub use response::Response;
 pub use switch::Switch;
 

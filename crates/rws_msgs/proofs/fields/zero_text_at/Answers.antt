@@ -2,7 +2,7 @@ use Rattle.std.proofs.Common.{◌≡◌, ℕ, ◌+◌, List, [], ◌∷◌, ◌+
 use Rattle.std.proofs.lemmas.List.{drop_all, drop_more, take_all, take_more, take_rest}
 use Rattle.rws_msgs.specs.Fields.{zero_text_at}
 use Rattle.rws_msgs.proofs.FieldLemmas.{with_front, with_front_nil, zero_text_found, zero_text_goes_on, HasNoZero-append, HasNoZero-nil}
-use Rattle.rws_msgs.proofs.reading.zero_text_at.Goals as goal
+use Rattle.rws_msgs.proofs.fields.zero_text_at.Goals as goal
 
 pub bytes-init : goal.bytes-init
 bytes-init c = (with_front_nil (zero_text_at c.args.bytes.now), HasNoZero-nil)

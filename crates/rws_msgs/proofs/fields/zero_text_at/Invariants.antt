@@ -1,7 +1,7 @@
 use Rattle.std.proofs.Common.{◌≡◌, take, drop}
 use Rattle.rws_msgs.specs.Fields.{zero_text_at, HasNoZero}
 use Rattle.rws_msgs.proofs.FieldLemmas.{with_front}
-use Rattle.rws_msgs.proofs.reading.zero_text_at.Given as goal
+use Rattle.rws_msgs.proofs.fields.zero_text_at.Given as goal
 
 abbrev pub invariant-bytes : goal.invariant-bytes
 invariant-bytes l =

@@ -1,4 +1,5 @@
-// The fields of messages, read without memory: each reader gives a value and the bytes behind it.
+//! The fields of messages ("Protocol Data Types"), read without memory: each reader gives a value and the bytes behind it,
+//! or the first fault.
 ghost use Rattle.std.specs.Prelude.{◌≡◌, IfOk, OnErr, length};
 ghost use Rattle.rws_msgs.specs.Fields.{HasNoZero, bytes_at, ended, fixed_at, last_text_at, lenenc_at, number_at, text_at, zero_text_at};
 ghost use Rattle.rws_wire.specs.Reading.{Reads};
@@ -6,6 +7,7 @@ ghost use Rattle.rws_wire.specs.Reading.{Reads};
 use crate::MsgFault;
 use rws_wire::{LenencFault, split_lenenc};
 
+/// A number in one byte.
 #[tactic(auto, unfolding(crate::specs::Fields::number_at))]
 pub fn u8_at(bytes: &[u8]) -> Result<(u8, &[u8]), MsgFault>
     ensures { Reads (λ x. (x.0, x.1.now)) result (number_at 1 bytes.now) }
@@ -16,6 +18,7 @@ pub fn u8_at(bytes: &[u8]) -> Result<(u8, &[u8]), MsgFault>
     }
 }
 
+/// A number in two bytes.
 #[tactic(auto, unfolding(crate::specs::Fields::number_at))]
 pub fn u16_at(bytes: &[u8]) -> Result<(u16, &[u8]), MsgFault>
     ensures { Reads (λ x. (x.0, x.1.now)) result (number_at 2 bytes.now) }
@@ -26,6 +29,7 @@ pub fn u16_at(bytes: &[u8]) -> Result<(u16, &[u8]), MsgFault>
     }
 }
 
+/// A number in four bytes.
 #[tactic(auto, unfolding(crate::specs::Fields::number_at))]
 pub fn u32_at(bytes: &[u8]) -> Result<(u32, &[u8]), MsgFault>
     ensures { Reads (λ x. (x.0, x.1.now)) result (number_at 4 bytes.now) }
@@ -36,6 +40,7 @@ pub fn u32_at(bytes: &[u8]) -> Result<(u32, &[u8]), MsgFault>
     }
 }
 
+/// So many bytes, copied into an array.
 #[tactic(auto, unfolding(crate::specs::Fields::bytes_at))]
 pub fn array_at<const N: usize>(bytes: &[u8]) -> Result<([u8; N], &[u8]), MsgFault>
     ensures { Reads (λ x. (x.0, x.1.now)) result (bytes_at N bytes.now) }
@@ -46,6 +51,7 @@ pub fn array_at<const N: usize>(bytes: &[u8]) -> Result<([u8; N], &[u8]), MsgFau
     }
 }
 
+/// So many bytes.
 #[tactic(auto, unfolding(crate::specs::Fields::bytes_at))]
 pub fn bytes_at(size: usize, bytes: &[u8]) -> Result<(&[u8], &[u8]), MsgFault>
     ensures reads { Reads (λ x. (x.0.now, x.1.now)) result (bytes_at size bytes.now) }
@@ -57,6 +63,7 @@ pub fn bytes_at(size: usize, bytes: &[u8]) -> Result<(&[u8], &[u8]), MsgFault>
     Ok(bytes.split_at(size))
 }
 
+/// What stands behind the byte that the layout fixes here.
 #[tactic(auto, unfolding(crate::specs::Fields::fixed_at))]
 pub fn fixed_at(byte: u8, bytes: &[u8]) -> Result<&[u8], MsgFault>
     ensures { Reads (λ x. x.now) result (fixed_at byte bytes.now) }
@@ -73,6 +80,7 @@ pub fn fixed_at(byte: u8, bytes: &[u8]) -> Result<&[u8], MsgFault>
     }
 }
 
+/// A length-encoded integer.
 #[tactic(auto, unfolding(crate::specs::Fields::lenenc_at))]
 pub fn lenenc_at(bytes: &[u8]) -> Result<(u64, &[u8]), MsgFault>
     ensures { Reads (λ x. (x.0, x.1.now)) result (lenenc_at bytes.now) }
@@ -94,6 +102,7 @@ pub fn split_text(bytes: &[u8]) -> Result<(&[u8], &[u8]), MsgFault>
     bytes_at(size as usize, rest)
 }
 
+/// A text up to a zero byte, and what stands behind that.
 pub fn zero_text_at(bytes: &[u8]) -> Result<(&[u8], &[u8]), MsgFault>
     ensures reads { Reads (λ x. (x.0.now, x.1.now)) result (zero_text_at bytes.now) }
     ensures no_zero { IfOk result (λ x. HasNoZero x.0.now) }
@@ -107,6 +116,7 @@ pub fn zero_text_at(bytes: &[u8]) -> Result<(&[u8], &[u8]), MsgFault>
     Err(MsgFault::Short)
 }
 
+/// A text up to a zero byte or, where there is none, to the end.
 #[tactic(auto, unfolding(crate::specs::Fields::last_text_at))]
 pub fn last_text_at(bytes: &[u8]) -> (&[u8], &[u8])
     ensures text { result.0.now ≡ (last_text_at bytes.now).0 }
@@ -119,6 +129,7 @@ pub fn last_text_at(bytes: &[u8]) -> (&[u8], &[u8])
     }
 }
 
+/// Nothing is left.
 #[tactic(auto, unfolding(crate::specs::Fields::ended))]
 pub fn end(bytes: &[u8]) -> Result<(), MsgFault>
     ensures { Reads (λ x. x) result (ended tt bytes.now) }
