@@ -1,7 +1,7 @@
 use Rattle.std.proofs.Common.{ℕ, List, ap, ◌∙◌}
-use Rattle.rws_gtid.specs.Reading.{gtid_at}
-use Rattle.rws_gtid.proofs.Spelled.{spelled_if_ok, gtid_again}
-use Rattle.rws_gtid.proofs.reading.parse.Goals as goal
+use Rattle.rws_gtid.specs.Parsing.{gtid_at}
+use Rattle.rws_gtid.proofs.SpellingLemmas.{spelled_if_ok, gtid_again}
+use Rattle.rws_gtid.proofs.parsing.parse.Goals as goal
 
 pub returns-clause-spelled : goal.returns-clause-spelled
 returns-clause-spelled c = spelled_if_ok c.args.text.now c.whole_gtid.result c.whole_gtid.ensures

@@ -1,10 +1,11 @@
--- Reading a GTID, or a list of them, from left to right, with the first fault that is met ("Global Transaction ID", in
+-- What a text of a GTID, or of a list of them, is parsed as: from left to right, with the first fault that is met ("Global Transaction ID", in
 -- MariaDB's documentation).
 use Rattle.std.specs.Prelude.{◌≡◌, ℕ, ◌+◌, ◌^◌, ◌==◌, not, List, [], ◌∷◌, length, drop, Option, None, Result, Ok, Err, nat_le, Some, ◌-◌, if◌then◌else◌, find}
 use Rattle.std.specs.List.{before_first, slice_split}
 use Rattle.std.specs.Char.{is_ascii_digit}
 use Rattle.std.specs.Str.Parse.{digits_value}
 use Rattle.rws_wire.specs.Reading.{◌>>=◌}
+use Rattle.rws_gtid.specs.declared.TheConstants.{ZERO, DASH, COMMA}
 use Rattle.rws_gtid.specs.declared.Gtid.{Gtid}
 use Rattle.rws_gtid.specs.declared.GtidFault.{GtidFault}
 use Rattle.rws_gtid.specs.declared.GtidFault.TheVariants.{NotAGtid, TooBig}
@@ -19,7 +20,7 @@ behind n rest = (rest.0 + n, drop n rest.1)
 -- the digits of the number that stands at the front: no number begins with a 0 but 0 itself
 abbrev pub digits_of : List ℕ → List ℕ
 digits_of [] = []
-digits_of (b ∷ bs) = if b == 48 then b ∷ [] else before_first (λ c. not (is_ascii_digit c)) (b ∷ bs)
+digits_of (b ∷ bs) = if b == ZERO then b ∷ [] else before_first (λ c. not (is_ascii_digit c)) (b ∷ bs)
 
 -- the number, where it is at most this
 abbrev pub at_most : ℕ → ℕ → Option ℕ
@@ -36,7 +37,7 @@ number_at most rest =
 -- the dash between two numbers
 unfoldable pub dash_at : Rest → Result Rest GtidFault
 dash_at (at, []) = Err (NotAGtid at)
-dash_at (at, first ∷ bytes) = if first == 45 then Ok (at + 1, bytes) else Err (NotAGtid at)
+dash_at (at, first ∷ bytes) = if first == DASH then Ok (at + 1, bytes) else Err (NotAGtid at)
 
 -- the GTID that fills the text
 unfoldable pub gtid_at : Rest → Result Gtid GtidFault
@@ -52,8 +53,8 @@ gtid_at text = do
 
 -- the first entry of a list is before its first comma, and the others are those of what is behind it
 abbrev pub CutsAtComma : List ℕ → List ℕ → Option (List ℕ) → Type 0
-CutsAtComma list entry None = slice_split (λ c. c == 44) list ≡ entry ∷ []
-CutsAtComma list entry (Some others) = (slice_split (λ c. c == 44) list ≡ entry ∷ slice_split (λ c. c == 44) others) × (length list ≡ length entry + 1 + length others)
+CutsAtComma list entry None = slice_split (λ c. c == COMMA) list ≡ entry ∷ []
+CutsAtComma list entry (Some others) = (slice_split (λ c. c == COMMA) list ≡ entry ∷ slice_split (λ c. c == COMMA) others) × (length list ≡ length entry + 1 + length others)
 
 -- the GTIDs of the entries, each with a comma behind it but for the last
 unfoldable pub entries_at : ℕ → List (List ℕ) → Result (List Gtid) GtidFault
@@ -65,7 +66,7 @@ entries_at at (entry ∷ entries) = do
 
 -- the GTIDs of a list; the empty text is the list without entries
 unfoldable pub gtids_of : List ℕ → Result (List Gtid) GtidFault
-gtids_of list = if length list == 0 then Ok [] else entries_at 0 (slice_split (λ c. c == 44) list)
+gtids_of list = if length list == 0 then Ok [] else entries_at 0 (slice_split (λ c. c == COMMA) list)
 
 -- the first entry of the domain
 abbrev pub entry_of : ℕ → List Gtid → Option Gtid

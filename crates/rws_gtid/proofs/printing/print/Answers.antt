@@ -1,8 +1,8 @@
 use Rattle.std.proofs.Common.{◌≡◌, ℕ, List, ap, ◌∙◌, arith, rules}
-use Rattle.rws_gtid.specs.Reading.{gtid_at}
+use Rattle.rws_gtid.specs.Parsing.{gtid_at}
 use Rattle.rws_gtid.specs.Spelling.{IsInRange, gtid_text}
-use Rattle.rws_gtid.proofs.Spelled.{gtid_again}
-use Rattle.rws_gtid.proofs.writing.print.Goals as goal
+use Rattle.rws_gtid.proofs.SpellingLemmas.{gtid_again}
+use Rattle.rws_gtid.proofs.printing.print.Goals as goal
 
 pub returns-clause-again : goal.returns-clause-again
 returns-clause-again c =

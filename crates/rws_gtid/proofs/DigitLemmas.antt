@@ -6,7 +6,7 @@ use Rattle.std.specs.Char.{digit_value, is_ascii_digit}
 use Rattle.std.specs.Str.Parse.{digits_value, digits_value_after, AllDigits}
 use Rattle.std.proofs.lemmas.Str.{digit_value_digit}
 use Rattle.std.proofs.lemmas.Bool.Decides.{nat_tests}
-use Rattle.rws_gtid.specs.Reading.{at_most}
+use Rattle.rws_gtid.specs.Parsing.{at_most}
 
 -- after the first i digits, none of which took the number above the most
 pub record Counted (digits : List ℕ) (i value most : ℕ) : Type 0 where

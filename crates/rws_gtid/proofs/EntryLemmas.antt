@@ -6,7 +6,7 @@ use Rattle.std.specs.Option.{option_or}
 use Rattle.rws_wire.specs.Reading.{◌>>=◌}
 use Rattle.rws_gtid.specs.declared.Gtid.{Gtid}
 use Rattle.rws_gtid.specs.declared.GtidFault.{GtidFault}
-use Rattle.rws_gtid.specs.Reading.{gtid_at, entries_at, gtids_of, position_in, entry_of, CutsAtComma}
+use Rattle.rws_gtid.specs.Parsing.{gtid_at, entries_at, gtids_of, position_in, entry_of, CutsAtComma}
 
 abbrev entries_in : ℕ → List ℕ → Result (List Gtid) GtidFault
 entries_in at list = entries_at at (slice_split (λ c. c == 44) list)

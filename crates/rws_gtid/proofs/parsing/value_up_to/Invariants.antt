@@ -1,5 +1,5 @@
-use Rattle.rws_gtid.proofs.Digits.{Counted}
-use Rattle.rws_gtid.proofs.reading.value_up_to.Given as goal
+use Rattle.rws_gtid.proofs.DigitLemmas.{Counted}
+use Rattle.rws_gtid.proofs.parsing.value_up_to.Given as goal
 
 abbrev pub invariant-loop-digit : goal.invariant-loop-digit
 invariant-loop-digit l = Counted l.digits l.digit-index l.value l.most

@@ -1,6 +1,6 @@
 use Rattle.std.proofs.Common.{length}
-use Rattle.rws_gtid.proofs.Entries.{IsLeft}
-use Rattle.rws_gtid.proofs.reading.first_of.Given as goal
+use Rattle.rws_gtid.proofs.EntryLemmas.{IsLeft}
+use Rattle.rws_gtid.proofs.parsing.first_of.Given as goal
 
 abbrev pub invariant-loop-gtid : goal.invariant-loop-gtid
 invariant-loop-gtid l = IsLeft l.list l.domain l.found l.at l.rest

@@ -8,13 +8,13 @@ use Rattle.std.proofs.lemmas.Str.Parse.{digit_from_value, numerals_by_value, tel
 use Rattle.std.proofs.lemmas.Fmt.{decimal_is_IsNumeral, decimal-digits_value, decimal_digit, first_decimal}
 use Rattle.std.proofs.Math.Dec.{eqb-suc-zero}
 use Rattle.std.proofs.lemmas.Bool.Decides.{nat_tests}
-use Rattle.rws_wire.specs.Reading.{◌>>=◌}
+use Rattle.rws_wire.proofs.ReadingLemmas.{bind_ok, done, ok_is}
 use Rattle.rws_gtid.specs.declared.Gtid.{Gtid}
 use Rattle.rws_gtid.specs.declared.GtidFault.{GtidFault}
 use Rattle.rws_gtid.specs.declared.GtidFault.TheVariants.{NotAGtid, TooBig}
 use Rattle.rws_gtid.specs.Spelling.{IsInRange, gtid_text}
-use Rattle.rws_gtid.specs.Reading.{Rest, behind, digits_of, number_at, dash_at, gtid_at}
-use Rattle.rws_gtid.proofs.Digits.{digits_in_run}
+use Rattle.rws_gtid.specs.Parsing.{Rest, behind, digits_of, number_at, dash_at, gtid_at}
+use Rattle.rws_gtid.proofs.DigitLemmas.{digits_in_run}
 
 abbrev other : ℕ → Bool
 other c = not (is_ascii_digit c)
@@ -105,12 +105,6 @@ pub record Takes (most : ℕ) (from : Rest) (n : ℕ) (to : Rest) : Type 0 where
   pub text : from.1 ≡ decimal n ++ to.1
   pub small : n ≤ most
 
-abbrev pub done : {A : Type 0} → A → Result A GtidFault
-done x = Ok x
-
-pub done_is : {A : Type 0} (a b : A) → done a ≡ done b → a ≡ b
-done_is a b e = cc
-
 pub number_takes : (most : ℕ) (from : Rest) (n : ℕ) (to : Rest) → most < 2 ^ 64 → number_at most from ≡ Ok (n, to) → Takes most from n to
 unfolding number_at
 number_takes most from n to fits e = none (length (digits_of from.1) == 0) refl e
@@ -120,7 +114,7 @@ number_takes most from n to fits e = none (length (digits_of from.1) == 0) refl 
 
     fine : 0 < length (digits_of from.1) → (test : Bool) → nat_le value most ≡ test → cond {A = Result (ℕ × Rest) GtidFault} test (Ok (value, behind (length (digits_of from.1)) from)) (Err (TooBig from.0)) ≡ Ok (n, to) → Takes most from n to
     fine some_ true e f =
-        let same = done_is (value, behind (length (digits_of from.1)) from) (n, to) f in
+        let same = ok_is (value, behind (length (digits_of from.1)) from) (n, to) f in
         let small = is_at_most value most e in
         subst (λ (x : ℕ × Rest). Takes most from x.0 x.1) same (record {
           text = sym (ap (λ (ds : List ℕ). ds ++ drop (length (digits_of from.1)) from.1) (decimal-digits_value own (digits_of from.1) (all_digits from.1) some_ (one_zero from.1) (omega arith)) ∙ digits_split from.1);
@@ -159,17 +153,13 @@ dash_takes at (b ∷ bs) to e = by (b == 45) refl e
     by : (test : Bool) → (b == 45) ≡ test → cond {A = Result Rest GtidFault} test (Ok (at + 1, bs)) (Err (NotAGtid at)) ≡ Ok to → b ∷ bs ≡ 45 ∷ to.1
     by true f e =
         let same : b ≡ 45 = grind (arith, nat_tests) in
-        let rest = done_is (at + 1, bs) to e in
+        let rest = ok_is (at + 1, bs) to e in
         ap (λ (c : ℕ). c ∷ bs) same ∙ ap (λ (r : Rest). 45 ∷ r.1) rest
     by false f e = absurd cc
 
-pub bind_ok : {A B : Type 0} (r : Result A GtidFault) (f : A → Result B GtidFault) (y : B) → (r >>= f) ≡ Ok y → (x : A) × (r ≡ Ok x) × (f x ≡ Ok y)
-bind_ok (Ok x) f y e = (x, refl, e)
-bind_ok (Err d) f y e = absurd cc
-
 -- the text ends here, and the numbers are those of the GTID
 ends_as : (made gtid : Gtid) (bytes : List ℕ) (at : ℕ) → cond (length bytes == 0) (done made) (Err (NotAGtid at)) ≡ Ok gtid → (made ≡ gtid) × (bytes ≡ [])
-ends_as made gtid [] at e = (done_is made gtid e, refl)
+ends_as made gtid [] at e = (ok_is made gtid e, refl)
 ends_as made gtid (b ∷ bs) at e = absurd (let none = rw eqb-suc-zero at e in cc)
 
 narrow_fits : 2 ^ 32 - 1 < 2 ^ 64

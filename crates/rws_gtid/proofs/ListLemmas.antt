@@ -13,9 +13,10 @@ use Rattle.rws_wire.specs.Reading.{◌>>=◌}
 use Rattle.rws_gtid.specs.declared.Gtid.{Gtid}
 use Rattle.rws_gtid.specs.declared.GtidFault.{GtidFault}
 use Rattle.rws_gtid.specs.Spelling.{AreInRange, IsInRange, gtid_text, list_text}
-use Rattle.rws_gtid.specs.Reading.{entries_at, gtids_of, position_in, entry_of}
-use Rattle.rws_gtid.proofs.Spelled.{bind_ok, done, done_is, gtid_takes, gtid_again, not_zero}
-use Rattle.rws_gtid.proofs.Commas.{is_comma}
+use Rattle.rws_gtid.specs.Parsing.{entries_at, gtids_of, position_in, entry_of}
+use Rattle.rws_wire.proofs.ReadingLemmas.{bind_ok, done, ok_is}
+use Rattle.rws_gtid.proofs.SpellingLemmas.{gtid_takes, gtid_again, not_zero}
+use Rattle.rws_gtid.proofs.CommaLemmas.{is_comma}
 
 -- ---- what is read is spelled so
 
@@ -25,13 +26,13 @@ Spells entries gtids = AreInRange gtids × (entries ≡ map gtid_text gtids)
 
 entries_spelled : (entries : List (List ℕ)) (at : ℕ) (gtids : List Gtid) → entries_at at entries ≡ Ok gtids → Spells entries gtids
 unfolding entries_at
-entries_spelled [] at gtids e = subst (Spells []) (done_is [] gtids e) (tt, refl)
+entries_spelled [] at gtids e = subst (Spells []) (ok_is [] gtids e) (tt, refl)
 entries_spelled (entry ∷ entries) at gtids e =
     let one = bind_ok _ _ gtids e in
     let others = bind_ok _ _ gtids one.2 in
     let first = gtid_takes (at, entry) one.0 one.1 in
     let rest = entries_spelled entries _ others.0 others.1 in
-    subst (Spells (entry ∷ entries)) (done_is (one.0 ∷ others.0) gtids others.2)
+    subst (Spells (entry ∷ entries)) (ok_is (one.0 ∷ others.0) gtids others.2)
     ((first.0, rest.0), ap (λ (t : List ℕ). t ∷ entries) first.1 ∙ ap (λ (ts : List (List ℕ)). gtid_text one.0 ∷ ts) rest.1)
 
 parted : (b : ℕ) (bs : List ℕ) → gtids_of (b ∷ bs) ≡ entries_at 0 (slice_split is_comma (b ∷ bs))
@@ -44,7 +45,7 @@ ListSpells list gtids = AreInRange gtids × (list ≡ list_text gtids)
 
 list_spelled : (list : List ℕ) (gtids : List Gtid) → gtids_of list ≡ Ok gtids → ListSpells list gtids
 unfolding gtids_of
-list_spelled [] gtids e = subst (ListSpells []) (done_is [] gtids e) (tt, refl)
+list_spelled [] gtids e = subst (ListSpells []) (ok_is [] gtids e) (tt, refl)
 list_spelled (b ∷ bs) gtids e =
     let entries = entries_spelled (slice_split is_comma (b ∷ bs)) 0 gtids (sym (parted b bs) ∙ e) in
     (entries.0, sym (join_with_byte-slice_split 44 (b ∷ bs)) ∙ ap (join_with_byte 44) entries.1)
@@ -55,7 +56,7 @@ position_spelled domain list (Err fault) e = tt
 position_spelled domain list (Ok found) e =
     let read = bind_ok (gtids_of list) _ found (sym e) in
     let spelled = list_spelled list read.0 read.1 in
-    (read.0, spelled.0, spelled.1, done_is found _ (sym read.2))
+    (read.0, spelled.0, spelled.1, ok_is found _ (sym read.2))
 
 -- ---- what is spelled so is read
 

@@ -1,10 +1,10 @@
 use Rattle.std.proofs.Common.{◌∙◌, sym, ap, length, refl, add_assoc}
-use Rattle.rws_gtid.specs.Reading.{gtids_of, position_in}
-use Rattle.rws_gtid.proofs.Entries.{all_left, fault_stays, found_by, last_found, others_left}
+use Rattle.rws_gtid.specs.Parsing.{gtids_of, position_in}
+use Rattle.rws_gtid.proofs.EntryLemmas.{all_left, fault_stays, found_by, last_found, others_left}
 use Rattle.std.proofs.lemmas.Result.{err_from_is_err_and}
 use Rattle.std.proofs.Common.{Option, Ok}
 use Rattle.rws_gtid.specs.declared.Gtid.{Gtid}
-use Rattle.rws_gtid.proofs.reading.first_of.Goals as goal
+use Rattle.rws_gtid.proofs.parsing.first_of.Goals as goal
 
 pub returns-then-is_empty : goal.returns-then-is_empty
 unfolding gtids_of position_in

@@ -4,7 +4,7 @@ use Rattle.std.specs.List.{position, position_or_len, slice_split, onto_first}
 use Rattle.std.proofs.lemmas.List.{take_rest, length-take-le, length-drop}
 use Rattle.std.proofs.lemmas.List.Splits.{slice_split_first, slice_split-cons_no}
 use Rattle.std.proofs.lemmas.Bool.Decides.{nat_tests}
-use Rattle.rws_gtid.specs.Reading.{CutsAtComma}
+use Rattle.rws_gtid.specs.Parsing.{CutsAtComma}
 
 abbrev pub is_comma : ℕ → Bool
 is_comma c = c == 44

@@ -1,6 +1,6 @@
 use Rattle.std.proofs.Common.{sym, ◌∙◌}
-use Rattle.rws_gtid.proofs.Digits.{too_big}
-use Rattle.rws_gtid.proofs.reading.value_up_to.Goals as goal
+use Rattle.rws_gtid.proofs.DigitLemmas.{too_big}
+use Rattle.rws_gtid.proofs.parsing.value_up_to.Goals as goal
 
 pub returns-in_err-value : goal.returns-in_err-value
 returns-in_err-value c =

@@ -1,7 +1,7 @@
-// Writes a GTID, and the statement that waits for one.
+//! The text of a GTID, and of the statement that waits for one ("MASTER_GTID_WAIT", in MariaDB's documentation).
 
 ghost use Rattle.std.specs.Prelude.{◌≡◌, IfOk, Ok, Some};
-ghost use Rattle.rws_gtid.specs.Reading.{gtid_at};
+ghost use Rattle.rws_gtid.specs.Parsing.{gtid_at};
 ghost use Rattle.rws_gtid.specs.Spelling.{gtid_text, wait_statement};
 
 use crate::Gtid;

@@ -1,7 +1,7 @@
 use Rattle.std.proofs.Common.{ap, ◌∙◌}
-use Rattle.rws_gtid.specs.Reading.{position_in}
-use Rattle.rws_gtid.proofs.Listed.{position_spelled, position_again}
-use Rattle.rws_gtid.proofs.reading.position_of.Goals as goal
+use Rattle.rws_gtid.specs.Parsing.{position_in}
+use Rattle.rws_gtid.proofs.ListLemmas.{position_spelled, position_again}
+use Rattle.rws_gtid.proofs.parsing.position_of.Goals as goal
 
 pub returns-clause-spelled : goal.returns-clause-spelled
 returns-clause-spelled c = position_spelled c.args.domain c.args.list.now c.first_of.result c.first_of.ensures

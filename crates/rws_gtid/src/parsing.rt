@@ -1,17 +1,18 @@
-// Reads a GTID, or a list of them, and names the place of the first fault.
+//! A GTID, or a list of them, parsed from left to right ("Global Transaction ID", in MariaDB's documentation). The place of the
+//! first fault is counted in the whole text, of which each step knows what is left and where that begins.
 
 ghost use Rattle.std.specs.Prelude.{◌≡◌, ◌==◌, ◌+◌, ◌*◌, ◌^◌, ◌<◌, ◌≤◌, length, IfOk, List, not, position, option_map};
 ghost use Rattle.std.specs.List.{before_first};
 ghost use Rattle.std.specs.Char.{digit_value, is_ascii_digit};
 ghost use Rattle.std.specs.Str.Parse.{digits_value, AllDigits};
-ghost use Rattle.rws_gtid.specs.Reading.{at_most, behind, digits_of, number_at, dash_at, gtid_at, entry_of, position_in, CutsAtComma};
+ghost use Rattle.rws_gtid.specs.Parsing.{at_most, behind, digits_of, number_at, dash_at, gtid_at, entry_of, position_in, CutsAtComma};
 ghost use Rattle.rws_wire.specs.Reading.{Reads};
 ghost use Rattle.rws_gtid.specs.Spelling.{AreInRange, IsInRange, gtid_text, list_text};
 ghost use Rattle.rws_gtid.specs.declared.Gtid.{Gtid};
 
-use crate::{Gtid, GtidFault};
+use crate::{COMMA, DASH, Gtid, GtidFault, ZERO};
 
-// What is left of a text, and its place in the whole.
+/// What is left of a text, and its place in the whole.
 #[derive(Clone, Copy)]
 struct Rest<'a> {
     at: usize,
@@ -19,14 +20,14 @@ struct Rest<'a> {
     ghost fits: { at + length bytes.now < 2 ^ 64 },
 }
 
-// The place of the first byte that is no digit.
+/// The place of the first byte that is no digit.
 fn first_other(bytes: &[u8]) -> Option<usize>
     ensures { result ≡ position (λ c. not (is_ascii_digit c)) bytes.now }
 {
     bytes.iter().position(|byte| !byte.is_ascii_digit())
 }
 
-// The digits up to the first byte that is none.
+/// The digits up to the first byte that is none.
 fn digit_run(bytes: &[u8]) -> &[u8]
     ensures { result.now ≡ before_first (λ c. not (is_ascii_digit c)) bytes.now }
 {
@@ -36,7 +37,7 @@ fn digit_run(bytes: &[u8]) -> &[u8]
     }
 }
 
-// The digits of the number at the front: no number begins with a 0 but 0 itself.
+/// The digits of the number at the front: no number begins with a 0 but 0 itself.
 fn digits(bytes: &[u8]) -> &[u8]
     ensures value { result.now ≡ digits_of bytes.now }
     ensures digits { AllDigits 10 result.now }
@@ -44,24 +45,24 @@ fn digits(bytes: &[u8]) -> &[u8]
 {
     match bytes {
         [] => bytes,
-        [b'0', ..] => &bytes[..1],
+        [ZERO, ..] => &bytes[..1],
         _ => digit_run(bytes),
     }
 }
 
-// The number with one more digit, or nothing where it is above `most`.
+/// The number with one more digit, or nothing where it is above `most`.
 fn with_digit(value: u64, digit: u8, most: u64) -> Option<u64>
     requires { digit_value digit < 10 }
     ensures { result ≡ at_most most (value * 10 + digit_value digit) }
 {
-    let next = value.checked_mul(10)?.checked_add(u64::from(digit - b'0'))?;
+    let next = value.checked_mul(10)?.checked_add(u64::from(digit - ZERO))?;
     if next > most {
         return None;
     }
     Some(next)
 }
 
-// The number that the digits write, or nothing where it is above `most`.
+/// The number that the digits write, or nothing where it is above `most`.
 fn value_up_to(digits: &[u8], most: u64) -> Option<u64>
     requires { AllDigits 10 digits.now }
     ensures { result ≡ at_most most (digits_value 10 digits.now) }
@@ -73,8 +74,8 @@ fn value_up_to(digits: &[u8], most: u64) -> Option<u64>
     Some(value)
 }
 
-// The number at the front, at most `most`, and what stands behind it.
-#[tactic(auto, unfolding(crate::specs::Reading::number_at))]
+/// The number at the front, at most `most`, and what stands behind it.
+#[tactic(auto, unfolding(crate::specs::Parsing::number_at))]
 fn number<'a>(rest: Rest<'a>, most: u64) -> Result<(u64, Rest<'a>), GtidFault>
     ensures small { IfOk result (λ x. x.0 ≤ most) }
     ensures read { Reads (λ x. (x.0, (x.1.at, x.1.bytes.now))) result (number_at most (rest.entry.at, rest.entry.bytes.now)) }
@@ -89,7 +90,7 @@ fn number<'a>(rest: Rest<'a>, most: u64) -> Result<(u64, Rest<'a>), GtidFault>
     Ok((value, behind(rest, digits.len())))
 }
 
-// What stands behind the first `count` bytes.
+/// What stands behind the first `count` bytes.
 fn behind<'a>(rest: Rest<'a>, count: usize) -> Rest<'a>
     requires { count ≤ length rest.bytes.now }
     ensures { (result.at, result.bytes.now) ≡ behind count (rest.entry.at, rest.entry.bytes.now) }
@@ -100,19 +101,19 @@ fn behind<'a>(rest: Rest<'a>, count: usize) -> Rest<'a>
     }
 }
 
-// What stands behind the dash at the front.
-#[tactic(auto, unfolding(crate::specs::Reading::dash_at))]
+/// What stands behind the dash at the front.
+#[tactic(auto, unfolding(crate::specs::Parsing::dash_at))]
 fn dash<'a>(rest: Rest<'a>) -> Result<Rest<'a>, GtidFault>
     ensures { Reads (λ x. (x.at, x.bytes.now)) result (dash_at (rest.entry.at, rest.entry.bytes.now)) }
 {
     match rest.bytes {
-        [b'-', ..] => Ok(behind(rest, 1)),
+        [DASH, ..] => Ok(behind(rest, 1)),
         _ => Err(GtidFault::NotAGtid { at: rest.at }),
     }
 }
 
-// The GTID that the text is.
-#[tactic(auto, unfolding(crate::specs::Reading::gtid_at))]
+/// The GTID that the text is.
+#[tactic(auto, unfolding(crate::specs::Parsing::gtid_at))]
 fn whole_gtid(text: Rest<'_>) -> Result<Gtid, GtidFault>
     ensures { result ≡ gtid_at (text.entry.at, text.entry.bytes.now) }
 {
@@ -143,14 +144,14 @@ pub fn parse(text: &[u8]) -> Result<Gtid, GtidFault>
     whole_gtid(Rest { at: 0, bytes: text })
 }
 
-// The place of the first comma.
+/// The place of the first comma.
 fn first_comma(list: &[u8]) -> Option<usize>
-    ensures { result ≡ position (λ c. c == 44) list.now }
+    ensures { result ≡ position (λ c. c == COMMA) list.now }
 {
-    list.iter().position(|byte| *byte == b',')
+    list.iter().position(|byte| *byte == COMMA)
 }
 
-// The bytes before the first comma, and those behind it where there is one.
+/// The bytes before the first comma, and those behind it where there is one.
 fn cut_at_comma(list: &[u8]) -> (&[u8], Option<&[u8]>)
     ensures { CutsAtComma list.now result.0.now (option_map (λ behind. behind.now) result.1) }
 {
@@ -160,7 +161,7 @@ fn cut_at_comma(list: &[u8]) -> (&[u8], Option<&[u8]>)
     }
 }
 
-// The first entry of the domain in a list.
+/// The first entry of the domain in a list.
 fn first_of(list: &[u8], domain: u32) -> Result<Option<Gtid>, GtidFault>
     ensures { result ≡ position_in domain list.now }
 {
