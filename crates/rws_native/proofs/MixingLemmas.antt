@@ -5,7 +5,7 @@ use Rattle.std.proofs.lemmas.List.FromFn.{fill_by_all, get_or-map-range_with_len
 use Rattle.sha1.specs.Sha1.{sha1}
 use Rattle.rws_native.specs.Native.{xor, mask, stage1_in}
 
-byte_again : (a b : ℕ) → bit_xor (bit_xor a b) b ≡ a
+pub byte_again : (a b : ℕ) → bit_xor (bit_xor a b) b ≡ a
 byte_again a b = xor_assoc a b b ∙ ap (bit_xor a) (xor_self b) ∙ xor_zero_r a
 
 pub xor_again : (digest mask : List ℕ) → length digest ≡ 20 → xor (xor digest mask) mask ≡ digest
