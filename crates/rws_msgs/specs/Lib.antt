@@ -1,7 +1,3 @@
--- numbers that the protocol fixes
-pub mod Commands
-pub mod Statuses
-pub mod Capabilities
 -- fields, and what decoding answers
 pub mod Fields
 pub mod Decoding

@@ -1,5 +1,6 @@
 //! The commands that a client sends in the command phase: the first byte of a command's payload, under the names of
 //! MariaDB's protocol documentation ("Text Protocol", "Binary Protocol (Prepared Statements)"). No other byte is a command here.
+//! Definitions name these constants too, from `specs.declared.command.TheConstants`.
 
 /// The client leaves; there is no reply.
 pub const COM_QUIT: u8 = 0x01;
