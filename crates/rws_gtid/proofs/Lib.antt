@@ -1,5 +1,7 @@
-pub mod Digits
-pub mod Commas
-pub mod Entries
-pub mod Spelled
-pub mod Listed
+-- one GTID: its digits, and its text
+pub mod DigitLemmas
+pub mod SpellingLemmas
+-- a list: cut at its first comma, entry by entry, and its text
+pub mod CommaLemmas
+pub mod EntryLemmas
+pub mod ListLemmas

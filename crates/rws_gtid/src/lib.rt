@@ -1,13 +1,23 @@
-//! MariaDB's global transaction identifiers: their texts, lists of them, and the statement that waits for one.
+//! MariaDB's global transaction identifiers: their texts, lists of them, and the statement that waits for one. A text that
+//! is read as a GTID is the one text that is printed for it.
 #![tactic(auto)]
 
-mod reading;
+mod parsing;
+mod printing;
 #[cfg(test)]
 mod tests;
-mod writing;
 
-pub use reading::{parse, position_of};
-pub use writing::{print, wait_text};
+pub use parsing::{parse, position_of};
+pub use printing::{print, wait_text};
+
+/// The digit that no number of a GTID begins with, but 0 itself.
+const ZERO: u8 = b'0';
+
+/// What stands between two numbers of a GTID.
+const DASH: u8 = b'-';
+
+/// What stands between two GTIDs of a list.
+const COMMA: u8 = b',';
 
 /// A global transaction identifier of MariaDB, printed as `domain-server-sequence`.
 #[derive(Clone, Copy, Debug, PartialEq, Eq)]

@@ -1,14 +1,16 @@
-// Texts of GTIDs that are read and written.
+//! GTIDs and lists that are parsed and printed, and texts that are neither.
 
 use crate::{Gtid, GtidFault, parse, position_of, print, wait_text};
 use std::test::Fail;
 
+/// With the greatest sequence.
 const GREATEST: Gtid = Gtid {
     domain: 0,
     server: 1,
     sequence: u64::MAX,
 };
 
+/// Printed and parsed, and the statement that waits for it.
 #[test]
 fn one_gtid(rt: HostRuntime) -> Result<(), Fail> {
     let alloc = rt.alloc();
@@ -31,6 +33,7 @@ fn one_gtid(rt: HostRuntime) -> Result<(), Fail> {
     Ok(())
 }
 
+/// Each fault, at its place.
 #[test]
 fn faults(rt: HostRuntime) -> Result<(), Fail> {
     let cases = [
@@ -53,6 +56,7 @@ fn faults(rt: HostRuntime) -> Result<(), Fail> {
     Ok(())
 }
 
+/// Lists, and faults behind a comma.
 #[test]
 fn positions(rt: HostRuntime) -> Result<(), Fail> {
     let first = Gtid {

@@ -1,4 +1,5 @@
 -- An execute is decoded again from what `encode` writes.
+use Rattle.rws_msgs.specs.declared.command.TheConstants.{COM_STMT_EXECUTE}
 use Rattle.std.proofs.Common.{◌≡◌, ℕ, ◌+◌, ◌*◌, ◌/◌, ◌<◌, false, eqb, List, [], ◌∷◌, ◌++◌, length, Option, Some, None, Ok, refl, ap, ◌∙◌, arith, inl, inr}
 use Rattle.std.proofs.lemmas.Bool.{cases_eq, ne_eqb}
 use Rattle.rws_wire.specs.Numbers.{bytes_of}
@@ -51,7 +52,7 @@ unfolding execute_at execute_bytes
 execute_again parameters head fits is =
     let given : List ℕ = values_bytes head.bitmap head.types head.values in
     rw (
-      fixed_again 0x17 (bytes_of 4 head.id ++ head.flags ∷ 0x01 ∷ 0x00 ∷ 0x00 ∷ 0x00 ∷ given),
+      fixed_again COM_STMT_EXECUTE (bytes_of 4 head.id ++ head.flags ∷ 0x01 ∷ 0x00 ∷ 0x00 ∷ 0x00 ∷ given),
       number_again 4 head.id (head.flags ∷ 0x01 ∷ 0x00 ∷ 0x00 ∷ 0x00 ∷ given) fits.id,
       byte_again head.flags (0x01 ∷ 0x00 ∷ 0x00 ∷ 0x00 ∷ given),
       once_again given,

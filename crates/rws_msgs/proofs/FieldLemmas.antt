@@ -4,23 +4,13 @@ use Rattle.std.proofs.lemmas.Bool.{le-ltb, eq-eqb, ne_eqb}
 use Rattle.std.proofs.lemmas.List.{append-nil, take_at, drop_at, length-append, length-drop}
 use Rattle.rws_wire.specs.Numbers.{bytes_of, number_of}
 use Rattle.rws_wire.specs.Lenenc.{Lenenc, Integer, Cut, NoInteger, sized, lenenc, lenenc_bytes}
+pub use Rattle.rws_wire.proofs.ReadingLemmas.{bind_ok, ok_is}
 use Rattle.rws_wire.proofs.NumberLemmas.{length-bytes_of, number_of-bytes_of}
 use Rattle.rws_wire.proofs.LenencLemmas.{lenenc-lenenc_bytes}
 use Rattle.rws_msgs.specs.declared.fault.MsgFault.{MsgFault}
 use Rattle.rws_msgs.specs.declared.fault.MsgFault.TheVariants.{Short}
 use Rattle.rws_wire.specs.Reading.{◌>>=◌}
 use Rattle.rws_msgs.specs.Fields.{bytes_at, number_at, fixed_at, integer_or_fault, lenenc_at, text_at, text_bytes, ended, zero_text_at, HasNoZero}
-
--- the value of a step that did not fail
-pub bind_ok : {A B : Type 0} (r : Result A MsgFault) (f : A → Result B MsgFault) (y : B) → (r >>= f) ≡ Ok y → (x : A) × (r ≡ Ok x) × (f x ≡ Ok y)
-bind_ok (Ok x) f y e = (x, refl, e)
-bind_ok (Err fault) f y e = absurd cc
-
-abbrev done : {A : Type 0} → A → Result A MsgFault
-done x = Ok x
-
-pub ok_is : {A : Type 0} (x y : A) → done x ≡ done y → x ≡ y
-ok_is x y e = cc
 
 pub bytes_again : (text rest : List ℕ) (size : ℕ) → length text ≡ size → bytes_at size (text ++ rest) ≡ Ok (text, rest)
 unfolding bytes_at

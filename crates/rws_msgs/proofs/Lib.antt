@@ -1,5 +1,7 @@
-pub mod WritingLemmas
+-- fields, read and written
 pub mod FieldLemmas
+pub mod WritingLemmas
+-- what is decoded, what is written and decoded again, message by message
 pub mod MemoryLemmas
 pub mod OkLemmas
 pub mod ErrLemmas

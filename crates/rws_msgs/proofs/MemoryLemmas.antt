@@ -1,4 +1,6 @@
 -- No layout has want of memory as its fault.
+use Rattle.rws_msgs.specs.declared.command.TheConstants.{COM_STMT_EXECUTE}
+use Rattle.rws_msgs.specs.declared.err_msg.TheConstants.{STATE_MARK}
 use Rattle.std.proofs.Common.{◌≡◌, ◌≢◌, ◌==◌, ℕ, ◌*◌, ◌+◌, ◌/◌, Bool, true, false, cond, nat_lt, List, [], ◌∷◌, length, take, drop, Option, Some, None, Result, Ok, Err, ap}
 use Rattle.std.specs.Prelude.{◌&&◌}
 use Rattle.rws_wire.specs.Lenenc.{Lenenc, Integer, Cut, NoInteger, lenenc}
@@ -116,7 +118,7 @@ unfolding err_at
 err_of_bytes payload =
     then_of _ (fixed_of_bytes 0xFF payload) (λ rest.
     then_of _ (number_of_bytes 2 rest) (λ code.
-    then_of _ (fixed_of_bytes 0x23 code.1) (λ marked.
+    then_of _ (fixed_of_bytes STATE_MARK code.1) (λ marked.
     then_of _ (bytes_of_bytes 5 marked) (λ state. value _))))
 
 pub err_never : (payload : List ℕ) → err_at payload ≢ Err OutOfMemory
@@ -154,7 +156,7 @@ values_of_bytes parameters bytes = by (parameters == 0)
 execute_of_bytes : (parameters : ℕ) (payload : List ℕ) → OfBytes (execute_at parameters payload)
 unfolding execute_at
 execute_of_bytes parameters payload =
-    then_of _ (fixed_of_bytes 0x17 payload) (λ rest.
+    then_of _ (fixed_of_bytes COM_STMT_EXECUTE payload) (λ rest.
     then_of _ (number_of_bytes 4 rest) (λ id.
     then_of _ (number_of_bytes 1 id.1) (λ flags.
     then_of _ (once_of_bytes flags.1) (λ behind.

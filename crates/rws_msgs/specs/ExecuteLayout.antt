@@ -4,6 +4,7 @@ use Rattle.rws_wire.specs.Numbers.{bytes_of}
 use Rattle.rws_msgs.specs.declared.fault.MsgFault.{MsgFault}
 use Rattle.rws_msgs.specs.declared.fault.MsgFault.TheVariants.{Short, BadTag}
 use Rattle.rws_msgs.specs.declared.execute_head.ExecuteHead.{ExecuteHead}
+use Rattle.rws_msgs.specs.declared.command.TheConstants.{COM_STMT_EXECUTE}
 use Rattle.rws_msgs.specs.Fields.{bytes_at, fixed_at, number_at}
 use Rattle.rws_wire.specs.Reading.{◌>>=◌}
 
@@ -34,7 +35,7 @@ values_at parameters bytes = if parameters == 0 then Ok ([], (None, [])) else (d
 
 unfoldable pub execute_at : ℕ → List ℕ → Result ExecuteHead MsgFault
 execute_at parameters payload = do
-  rest ← fixed_at 0x17 payload
+  rest ← fixed_at COM_STMT_EXECUTE payload
   id ← number_at 4 rest
   flags ← number_at 1 id.1
   behind ← once_at flags.1
@@ -52,7 +53,7 @@ values_bytes (byte ∷ bitmap) types values = (byte ∷ bitmap) ++ (types_bytes 
 
 unfoldable pub execute_bytes : ExecuteHead → List ℕ
 execute_bytes head =
-    0x17 ∷ (bytes_of 4 head.id ++ head.flags ∷ 0x01 ∷ 0x00 ∷ 0x00 ∷ 0x00 ∷ values_bytes head.bitmap head.types head.values)
+    COM_STMT_EXECUTE ∷ (bytes_of 4 head.id ++ head.flags ∷ 0x01 ∷ 0x00 ∷ 0x00 ∷ 0x00 ∷ values_bytes head.bitmap head.types head.values)
 
 -- the size of the types for so many parameters, where they are there
 abbrev pub HaveSize : ℕ → Option (List ℕ) → Type 0

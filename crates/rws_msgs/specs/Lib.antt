@@ -1,5 +1,7 @@
-pub mod Reading
+-- fields, and what decoding answers
 pub mod Fields
+pub mod Decoding
+-- messages: each layout, and the message whose parts were read
 pub mod OkLayout
 pub mod OkParts
 pub mod ErrLayout

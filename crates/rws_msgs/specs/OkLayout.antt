@@ -7,12 +7,13 @@ use Rattle.rws_wire.specs.Lenenc.{lenenc_bytes}
 use Rattle.rws_wire.specs.Numbers.{bytes_of}
 use Rattle.rws_msgs.specs.declared.fault.MsgFault.{MsgFault}
 use Rattle.rws_msgs.specs.declared.ok_msg.OkMsg.{OkMsg}
+use Rattle.rws_msgs.specs.declared.status.TheConstants.{SESSION_STATE_CHANGED}
 use Rattle.rws_msgs.specs.Fields.{fixed_at, lenenc_at, number_at, text_at, text_bytes, ended}
 use Rattle.rws_wire.specs.Reading.{◌>>=◌}
 
--- SERVER_SESSION_STATE_CHANGED
+-- the status says that the session's state has changed
 abbrev pub states : ℕ → Bool
-states status = not (bit_and status 0x4000 == 0)
+states status = not (bit_and status SESSION_STATE_CHANGED == 0)
 
 unfoldable pub state_at : Bool → List ℕ → Result (List ℕ × List ℕ) MsgFault
 state_at true bytes = text_at bytes

@@ -3,6 +3,7 @@ use Rattle.std.specs.Prelude.{ℕ, ◌<◌, ◌^◌, ◌%◌, Bool, true, false,
 use Rattle.rws_wire.specs.Numbers.{bytes_of}
 use Rattle.rws_msgs.specs.declared.fault.MsgFault.{MsgFault}
 use Rattle.rws_msgs.specs.declared.response.Response.{Response}
+use Rattle.rws_msgs.specs.declared.capability.TheConstants.{CONNECT_WITH_DB, PLUGIN_AUTH, CONNECT_ATTRS, PLUGIN_AUTH_LENENC_CLIENT_DATA}
 use Rattle.rws_msgs.specs.Fields.{HasNoZero, bytes_at, number_at, text_at, text_bytes, zero_text_at, last_text_at, ended}
 use Rattle.rws_wire.specs.Reading.{◌>>=◌}
 
@@ -10,18 +11,18 @@ use Rattle.rws_wire.specs.Reading.{◌>>=◌}
 unfoldable pub has : ℕ → ℕ → Bool
 has flags bit = not (bit_and flags bit == 0)
 
--- CLIENT_CONNECT_WITH_DB, CLIENT_PLUGIN_AUTH, CLIENT_CONNECT_ATTRS, CLIENT_PLUGIN_AUTH_LENENC_CLIENT_DATA
+-- what the flags say of the fields
 abbrev pub with_database : ℕ → Bool
-with_database flags = has flags 0x8
+with_database flags = has flags CONNECT_WITH_DB
 
 abbrev pub with_plugin : ℕ → Bool
-with_plugin flags = has flags 0x80000
+with_plugin flags = has flags PLUGIN_AUTH
 
 abbrev pub with_attributes : ℕ → Bool
-with_attributes flags = has flags 0x100000
+with_attributes flags = has flags CONNECT_ATTRS
 
 abbrev pub with_lenenc : ℕ → Bool
-with_lenenc flags = has flags 0x200000
+with_lenenc flags = has flags PLUGIN_AUTH_LENENC_CLIENT_DATA
 
 -- a text behind its length, a length-encoded integer or one byte
 unfoldable pub answer_at : Bool → List ℕ → Result (List ℕ × List ℕ) MsgFault

@@ -1,4 +1,4 @@
-// Messages as MariaDB 10.11 and its clients sent them.
+//! Messages as MariaDB 10.11 and its clients sent them.
 
 use super::*;
 use std::test::Fail;

@@ -1,41 +1,43 @@
-//! The first byte of a client's command ("Text protocol", "Utility commands" and "Binary protocol (prepared statements)"
-//! of MariaDB's documentation).
+//! The commands that a client sends in the command phase: the first byte of a command's payload, under the names of
+//! MariaDB's protocol documentation ("Text Protocol", "Binary Protocol (Prepared Statements)"). No other byte is a command here.
+//! Definitions name these constants too, from `specs.declared.command.TheConstants`.
 
-/// Ends the session.
+/// The client leaves; there is no reply.
 pub const COM_QUIT: u8 = 0x01;
 
-/// Chooses the database that later statements speak of.
+/// Another database: its name.
 pub const COM_INIT_DB: u8 = 0x02;
 
-/// A statement as text.
+/// A statement: its text.
 pub const COM_QUERY: u8 = 0x03;
 
-/// The columns of a table.
+/// The columns of a table: its name and a zero byte, then a pattern.
 pub const COM_FIELD_LIST: u8 = 0x04;
 
-/// Asks whether the server is there.
+/// Whether the server is there.
 pub const COM_PING: u8 = 0x0E;
 
-/// Prepares a statement.
+/// A statement to be prepared: its text.
 pub const COM_STMT_PREPARE: u8 = 0x16;
 
-/// Carries out a prepared statement.
+/// A prepared statement is carried out, as [`ExecuteHead`](crate::ExecuteHead) has it.
 pub const COM_STMT_EXECUTE: u8 = 0x17;
 
-/// A piece of a parameter's value, for the next execute. It isn't answered.
+/// A part of a parameter's value: a statement's id in four bytes, the parameter's place in two, and the bytes. There
+/// is no reply.
 pub const COM_STMT_SEND_LONG_DATA: u8 = 0x18;
 
-/// Forgets a prepared statement. It isn't answered.
+/// A statement is given up: its id in four bytes. There is no reply.
 pub const COM_STMT_CLOSE: u8 = 0x19;
 
-/// Takes back what was sent for a prepared statement since its last execute.
+/// A statement's long data and cursor are given up: its id in four bytes.
 pub const COM_STMT_RESET: u8 = 0x1A;
 
-/// Allows several statements in a text, or forbids them.
+/// Several statements in one COM_QUERY are allowed or not: a number in two bytes.
 pub const COM_SET_OPTION: u8 = 0x1B;
 
-/// Fetches rows of a cursor.
+/// Rows of an open cursor: a statement's id and how many, in four bytes each.
 pub const COM_STMT_FETCH: u8 = 0x1C;
 
-/// Sets the session back to how it began.
+/// The session becomes as it was behind the login.
 pub const COM_RESET_CONNECTION: u8 = 0x1F;

@@ -1,15 +1,16 @@
-// The end of a list of definitions or rows.
+//! The end of a list of definitions or rows ("EOF_Packet").
 ghost use Rattle.std.specs.Prelude.{◌≡◌, ◌++◌, Ok, OnOk, OnErr};
 ghost use Rattle.rws_msgs.specs.EofLayout.{EofFits, eof_at, eof_bytes};
 ghost use Rattle.rws_wire.specs.Reading.{Reads};
 
 use crate::MsgFault;
-use crate::reading::{end, fixed_at, u16_at};
+use crate::fields::{end, fixed_at, u16_at};
 use std::alloc::AllocError;
 
 /// EOF_Packet: column definitions or rows have ended.
 #[derive(Clone, Copy, Debug, PartialEq, Eq)]
 pub struct EofMsg {
+    /// How many warnings the command left.
     pub warnings: u16,
     /// The server's status bits, as in an `OkMsg`.
     pub status: u16,
@@ -40,6 +41,7 @@ impl EofMsg {
         self.put(out)
     }
 
+    /// Appends the payload, without what is said of decoding it.
     #[tactic(auto, unfolding(crate::specs::EofLayout::eof_bytes))]
     fn put(&self, out: &mut Vec<u8>) -> Result<(), AllocError>
         ensures ok { OnOk result (out.new.items ≡ out.old.items ++ eof_bytes self.now) }

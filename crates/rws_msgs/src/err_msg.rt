@@ -1,15 +1,18 @@
-// The error of a reply.
+//! The error of a reply ("ERR_Packet").
 ghost use Rattle.std.specs.Prelude.{◌≡◌, ◌++◌, Ok, length, take, OnOk, OnErr};
 ghost use Rattle.rws_msgs.specs.ErrLayout.{ErrFits, err_at, err_bytes, err_code};
 ghost use Rattle.rws_msgs.specs.ErrParts.{err_of};
-ghost use Rattle.rws_msgs.specs.Reading.{Gives};
+ghost use Rattle.rws_msgs.specs.Decoding.{IsDecoded};
 ghost use Rattle.rws_wire.specs.Reading.{Reads};
 
 use crate::MsgFault;
-use crate::reading::{array_at, fixed_at, u16_at};
+use crate::fields::{array_at, fixed_at, u16_at};
 use crate::writing::{or_cut, put_u16};
 use rws_wire::Text;
 use std::alloc::{AllocError, Global};
+
+/// What stands in front of the state.
+const STATE_MARK: u8 = b'#';
 
 /// ERR_Packet: a command was refused or broke off. Read and written with `#` and a state, as between sides that
 /// have CLIENT_PROTOCOL_41.
@@ -19,9 +22,11 @@ pub struct ErrMsg {
     pub code: u16,
     /// SQLSTATE, five characters.
     pub state: [u8; 5],
+    /// What is wrong, for people.
     pub text: Text,
 }
 
+/// The fields, before a text is copied.
 #[derive(Clone, Copy)]
 struct Parts<'a> {
     code: u16,
@@ -29,13 +34,14 @@ struct Parts<'a> {
     text: &'a [u8],
 }
 
+/// The error that the payload is.
 #[tactic(auto, unfolding(crate::specs::ErrLayout::err_at))]
 fn parts_of(payload: &[u8]) -> Result<Parts<'_>, MsgFault>
     ensures { Reads err_of result (err_at payload.now) }
 {
     let rest = fixed_at(0xFF, payload)?;
     let (code, rest) = u16_at(rest)?;
-    let rest = fixed_at(b'#', rest)?;
+    let rest = fixed_at(STATE_MARK, rest)?;
     let (state, text) = array_at::<5>(rest)?;
     Ok(Parts { code, state, text })
 }
@@ -55,7 +61,7 @@ impl ErrMsg {
     /// The error in a payload.
     #[tactic(auto, using(crate::proofs::MemoryLemmas::err_never))]
     pub fn decode(alloc: Global, payload: &[u8]) -> Result<ErrMsg, MsgFault>
-        ensures { Gives result (err_at payload.now) }
+        ensures { IsDecoded result (err_at payload.now) }
     {
         let parts = parts_of(payload)?;
         Ok(ErrMsg {
@@ -78,6 +84,7 @@ impl ErrMsg {
         or_cut(self.put(out), before, out)
     }
 
+    /// Appends the payload; after an `Err` some of it may stand there.
     #[tactic(auto, unfolding(crate::specs::ErrLayout::err_bytes))]
     fn put(&self, out: &mut Vec<u8>) -> Result<(), AllocError>
         ensures ok { OnOk result (out.new.items ≡ out.old.items ++ err_bytes self.now) }
@@ -87,7 +94,7 @@ impl ErrMsg {
         let code = self.code;
         out.push(0xFF)?;
         put_u16(code, out)?;
-        out.push(b'#')?;
+        out.push(STATE_MARK)?;
         out.extend_from_slice(&self.state)?;
         out.extend_from_slice(self.text.as_slice())
     }

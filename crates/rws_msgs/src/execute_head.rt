@@ -1,13 +1,15 @@
-// The call of a prepared statement.
+//! The call of a prepared statement ("COM_STMT_EXECUTE"). Its fields stand in one place or another by the number of
+//! parameters, which the message itself doesn't tell.
 ghost use Rattle.std.specs.Prelude.{◌≡◌, ◌++◌, ℕ, Ok, OnOk, OnErr, IfOk, length, take};
 ghost use Rattle.std.specs.Option.{option_map};
 ghost use Rattle.rws_msgs.specs.ExecuteLayout.{AreValues, ExecuteFits, HaveSize, IsExecuteHead, execute_at, execute_bytes, once_at, types_at, types_bytes, values_at, values_bytes};
 ghost use Rattle.rws_msgs.specs.ExecuteParts.{execute_of};
-ghost use Rattle.rws_msgs.specs.Reading.{Gives};
+ghost use Rattle.rws_msgs.specs.Decoding.{IsDecoded};
 ghost use Rattle.rws_wire.specs.Reading.{Reads};
 
 use crate::MsgFault;
-use crate::reading::{bytes_at, fixed_at, u8_at, u32_at};
+use crate::command::COM_STMT_EXECUTE;
+use crate::fields::{bytes_at, fixed_at, u8_at, u32_at};
 use crate::writing::{or_cut, put_u32};
 use rws_wire::Text;
 use std::alloc::{AllocError, Global};
@@ -27,15 +29,23 @@ pub struct ExecuteHead {
     pub values: Text,
 }
 
+/// A COM_STMT_EXECUTE whose parts stand in bytes that another holds, so it is split and written without a copy. Its
+/// fields are those of `ExecuteHead`.
 #[derive(Clone, Copy)]
-struct Parts<'a> {
-    id: u32,
-    flags: u8,
-    bitmap: &'a [u8],
-    types: Option<&'a [u8]>,
-    values: &'a [u8],
+pub struct ExecuteParts<'a> {
+    /// The statement's id on its link.
+    pub id: u32,
+    /// 0, or the kind of cursor that is asked for.
+    pub flags: u8,
+    /// One bit a parameter: whether it is NULL.
+    pub bitmap: &'a [u8],
+    /// Two bytes a parameter, where the types are sent along.
+    pub types: Option<&'a [u8]>,
+    /// The values of the parameters that aren't NULL, one after another.
+    pub values: &'a [u8],
 }
 
+/// What stands behind the number of iterations, which is 1.
 #[tactic(auto, unfolding(crate::specs::ExecuteLayout::once_at))]
 fn once_at(bytes: &[u8]) -> Result<&[u8], MsgFault>
     ensures { Reads (λ rest. rest.now) result (once_at bytes.now) }
@@ -46,6 +56,7 @@ fn once_at(bytes: &[u8]) -> Result<&[u8], MsgFault>
     fixed_at(0x00, rest)
 }
 
+/// The types, where the byte in front says that they follow, and the values behind them.
 #[tactic(auto, unfolding(crate::specs::ExecuteLayout::types_at))]
 fn types_of(parameters: u16, bytes: &[u8]) -> Result<(Option<&[u8]>, &[u8]), MsgFault>
     ensures reads { Reads (λ x. (option_map (λ types. types.now) x.0, x.1.now)) result (types_at parameters bytes.now) }
@@ -62,7 +73,7 @@ fn types_of(parameters: u16, bytes: &[u8]) -> Result<(Option<&[u8]>, &[u8]), Msg
     }
 }
 
-// The bitmap, the types and the values.
+/// The bitmap, the types and the values.
 #[derive(Clone, Copy)]
 struct Values<'a> {
     bitmap: &'a [u8],
@@ -70,6 +81,7 @@ struct Values<'a> {
     values: &'a [u8],
 }
 
+/// The bitmap, the types and the values, of which a statement without parameters has none.
 #[tactic(auto, unfolding(crate::specs::ExecuteLayout::values_at))]
 fn values_of(parameters: u16, bytes: &[u8]) -> Result<Values<'_>, MsgFault>
     ensures reads { Reads (λ v. (v.bitmap.now, (option_map (λ types. types.now) v.types, v.values.now))) result (values_at parameters bytes.now) }
@@ -91,33 +103,92 @@ fn values_of(parameters: u16, bytes: &[u8]) -> Result<Values<'_>, MsgFault>
     })
 }
 
-#[tactic(auto, unfolding(crate::specs::ExecuteLayout::execute_at))]
-fn parts_of(payload: &[u8], parameters: u16) -> Result<Parts<'_>, MsgFault>
-    ensures reads { Reads execute_of result (execute_at parameters payload.now) }
-    ensures is { IfOk result (λ parts. IsExecuteHead parameters (execute_of parts)) }
-{
-    let rest = fixed_at(0x17, payload)?;
-    let (id, rest) = u32_at(rest)?;
-    let (flags, rest) = u8_at(rest)?;
-    let behind = once_at(rest)?;
-    let given = values_of(parameters, behind)?;
-    Ok(Parts {
-        id,
-        flags,
-        bitmap: given.bitmap,
-        types: given.types,
-        values: given.values,
-    })
+impl<'a> ExecuteParts<'a> {
+    /// The parts of the execute in a payload, of a statement with so many parameters. It takes no memory.
+    #[tactic(auto, unfolding(crate::specs::ExecuteLayout::execute_at))]
+    pub fn split(payload: &'a [u8], parameters: u16) -> Result<ExecuteParts<'a>, MsgFault>
+        ensures reads { Reads execute_of result (execute_at parameters payload.now) }
+        ensures is { IfOk result (λ parts. IsExecuteHead parameters (execute_of parts)) }
+    {
+        let rest = fixed_at(COM_STMT_EXECUTE, payload)?;
+        let (id, rest) = u32_at(rest)?;
+        let (flags, rest) = u8_at(rest)?;
+        let behind = once_at(rest)?;
+        let given = values_of(parameters, behind)?;
+        Ok(ExecuteParts {
+            id,
+            flags,
+            bitmap: given.bitmap,
+            types: given.types,
+            values: given.values,
+        })
+    }
+
+    /// Appends the payload, as `ExecuteHead::encode` does. `Err` leaves `out` as it was.
+    pub fn encode(&self, out: &mut Vec<u8>) -> Result<(), AllocError>
+        ensures ok { OnOk result (out.new.items ≡ out.old.items ++ execute_bytes (execute_of self.now)) }
+        ensures err { OnErr result (out.new.items ≡ out.old.items) }
+        ensures fits { ExecuteFits (execute_of self.now) }
+    {
+        let before = out.len();
+        or_cut(self.put(out), before, out)
+    }
+
+    /// Appends the payload; after an `Err` some of it may stand there.
+    #[tactic(auto, unfolding(crate::specs::ExecuteLayout::execute_bytes))]
+    fn put(&self, out: &mut Vec<u8>) -> Result<(), AllocError>
+        ensures ok { OnOk result (out.new.items ≡ out.old.items ++ execute_bytes (execute_of self.now)) }
+        ensures err { OnErr result (take (length out.old.items) out.new.items ≡ out.old.items) }
+        ensures fits { ExecuteFits (execute_of self.now) }
+    {
+        let (id, flags) = (self.id, self.flags);
+        out.push(COM_STMT_EXECUTE)?;
+        put_u32(id, out)?;
+        out.extend_from_slice(&[flags, 0x01, 0x00, 0x00, 0x00])?;
+        self.put_values(out)
+    }
+
+    /// Appends the bitmap, the types and the values.
+    #[tactic(auto, unfolding(crate::specs::ExecuteLayout::values_bytes))]
+    fn put_values(&self, out: &mut Vec<u8>) -> Result<(), AllocError>
+        ensures ok { OnOk result (out.new.items ≡ out.old.items ++ values_bytes self.now.bitmap.now (execute_of self.now).types self.now.values.now) }
+        ensures err { OnErr result (take (length out.old.items) out.new.items ≡ out.old.items) }
+    {
+        if self.bitmap.is_empty() {
+            return Ok(());
+        }
+        out.extend_from_slice(self.bitmap)?;
+        self.put_types(out)?;
+        out.extend_from_slice(self.values)
+    }
+
+    /// Appends the byte that says whether types follow, and the types.
+    #[tactic(auto, unfolding(crate::specs::ExecuteLayout::types_bytes))]
+    fn put_types(&self, out: &mut Vec<u8>) -> Result<(), AllocError>
+        ensures ok { OnOk result (out.new.items ≡ out.old.items ++ types_bytes (execute_of self.now).types) }
+        ensures err { OnErr result (take (length out.old.items) out.new.items ≡ out.old.items) }
+    {
+        match self.types {
+            None => {
+                out.push(0x00)?;
+                Ok(())
+            }
+            Some(types) => {
+                out.push(0x01)?;
+                out.extend_from_slice(types)
+            }
+        }
+    }
 }
 
 impl ExecuteHead {
     /// The execute in a payload, of a statement with so many parameters.
     #[tactic(auto, using(crate::proofs::MemoryLemmas::execute_never))]
     pub fn decode(alloc: Global, payload: &[u8], parameters: u16) -> Result<ExecuteHead, MsgFault>
-        ensures gives { Gives result (execute_at parameters payload.now) }
+        ensures gives { IsDecoded result (execute_at parameters payload.now) }
         ensures is { IfOk result (λ head. IsExecuteHead parameters head) }
     {
-        let parts = parts_of(payload, parameters)?;
+        let parts = ExecuteParts::split(payload, parameters)?;
         let types = match parts.types {
             Some(types) => Some(Text::from_slice(alloc, types)?),
             None => None,
@@ -143,50 +214,19 @@ impl ExecuteHead {
         ensures again { (parameters : ℕ) → IsExecuteHead parameters self.now
             → execute_at parameters (execute_bytes self.now) ≡ Ok self.now }
     {
-        let before = out.len();
-        or_cut(self.put(out), before, out)
+        self.parts().encode(out)
     }
 
-    #[tactic(auto, unfolding(crate::specs::ExecuteLayout::execute_bytes))]
-    fn put(&self, out: &mut Vec<u8>) -> Result<(), AllocError>
-        ensures ok { OnOk result (out.new.items ≡ out.old.items ++ execute_bytes self.now) }
-        ensures err { OnErr result (take (length out.old.items) out.new.items ≡ out.old.items) }
-        ensures fits { ExecuteFits self.now }
+    /// The same fields, looked at.
+    fn parts(&self) -> ExecuteParts<'_>
+        ensures { execute_of result ≡ self.now }
     {
-        let (id, flags) = (self.id, self.flags);
-        out.push(0x17)?;
-        put_u32(id, out)?;
-        out.extend_from_slice(&[flags, 0x01, 0x00, 0x00, 0x00])?;
-        self.put_values(out)
-    }
-
-    #[tactic(auto, unfolding(crate::specs::ExecuteLayout::values_bytes))]
-    fn put_values(&self, out: &mut Vec<u8>) -> Result<(), AllocError>
-        ensures ok { OnOk result (out.new.items ≡ out.old.items ++ values_bytes self.now.bitmap self.now.types self.now.values) }
-        ensures err { OnErr result (take (length out.old.items) out.new.items ≡ out.old.items) }
-    {
-        if self.bitmap.is_empty() {
-            return Ok(());
-        }
-        out.extend_from_slice(self.bitmap.as_slice())?;
-        put_types(&self.types, out)?;
-        out.extend_from_slice(self.values.as_slice())
-    }
-}
-
-#[tactic(auto, unfolding(crate::specs::ExecuteLayout::types_bytes))]
-fn put_types(types: &Option<Text>, out: &mut Vec<u8>) -> Result<(), AllocError>
-    ensures ok { OnOk result (out.new.items ≡ out.old.items ++ types_bytes types.now) }
-    ensures err { OnErr result (take (length out.old.items) out.new.items ≡ out.old.items) }
-{
-    match types {
-        None => {
-            out.push(0x00)?;
-            Ok(())
-        }
-        Some(types) => {
-            out.push(0x01)?;
-            out.extend_from_slice(types.as_slice())
+        ExecuteParts {
+            id: self.id,
+            flags: self.flags,
+            bitmap: self.bitmap.as_slice(),
+            types: self.types.as_ref().map(Text::as_slice),
+            values: self.values.as_slice(),
         }
     }
 }

@@ -1,4 +1,4 @@
-// Why a payload is no message.
+//! Why a payload is no message: one enum for all messages, whose causes are met from left to right.
 ghost use Rattle.std.specs.Prelude.{◌≡◌};
 ghost use Rattle.rws_msgs.specs.declared.fault.MsgFault.TheVariants.{OutOfMemory};
 

@@ -1,13 +1,14 @@
-// What a server says first on a connection.
+//! What a server says first on a connection ("Connection", Initial Handshake Packet). The scramble and the capabilities stand
+//! in two pieces each, which are one value here.
 ghost use Rattle.std.specs.Prelude.{◌≡◌, ◌<◌, ◌^◌, ◌++◌, Ok, OnOk, OnErr, IfOk, length, take};
 ghost use Rattle.rws_msgs.specs.Fields.{HasNoZero};
 ghost use Rattle.rws_msgs.specs.GreetingLayout.{GreetingFits, abilities_at, abilities_bytes, back_bytes, front_bytes, greeting_at, greeting_bytes, last_piece_at, plugin_at};
 ghost use Rattle.rws_msgs.specs.GreetingParts.{greeting_of};
-ghost use Rattle.rws_msgs.specs.Reading.{Gives};
+ghost use Rattle.rws_msgs.specs.Decoding.{IsDecoded};
 ghost use Rattle.rws_wire.specs.Reading.{Reads};
 
 use crate::MsgFault;
-use crate::reading::{
+use crate::fields::{
     array_at, bytes_at, end, fixed_at, last_text_at, u8_at, u16_at, u32_at, zero_text_at,
 };
 use crate::writing::{or_cut, put_u32};
@@ -33,7 +34,7 @@ pub struct Greeting {
     pub plugin: Text,
 }
 
-// The numbers between the two pieces of the scramble.
+/// The numbers between the two pieces of the scramble.
 #[derive(Clone, Copy)]
 struct Abilities {
     capabilities: u32,
@@ -41,6 +42,7 @@ struct Abilities {
     status: u16,
 }
 
+/// The fields, before texts are copied.
 #[derive(Clone, Copy)]
 struct Parts<'a> {
     version: &'a [u8],
@@ -50,6 +52,7 @@ struct Parts<'a> {
     plugin: &'a [u8],
 }
 
+/// The numbers between the two pieces of the scramble.
 #[tactic(auto, unfolding(crate::specs::GreetingLayout::abilities_at))]
 fn abilities_of(bytes: &[u8]) -> Result<(Abilities, &[u8]), MsgFault>
     ensures { Reads (λ x. (x.0, x.1.now)) result (abilities_at bytes.now) }
@@ -69,6 +72,7 @@ fn abilities_of(bytes: &[u8]) -> Result<(Abilities, &[u8]), MsgFault>
     ))
 }
 
+/// The second piece of the scramble, behind the data length and the filler.
 #[tactic(auto, unfolding(crate::specs::GreetingLayout::last_piece_at))]
 fn last_piece_of(bytes: &[u8]) -> Result<([u8; 12], &[u8]), MsgFault>
     ensures { Reads (λ x. (x.0, x.1.now)) result (last_piece_at bytes.now) }
@@ -80,6 +84,7 @@ fn last_piece_of(bytes: &[u8]) -> Result<([u8; 12], &[u8]), MsgFault>
     Ok((piece, rest))
 }
 
+/// The plugin's name, which ends the payload.
 #[tactic(auto, unfolding(crate::specs::GreetingLayout::plugin_at, crate::specs::Fields::ended))]
 fn plugin_of(bytes: &[u8]) -> Result<&[u8], MsgFault>
     ensures reads { Reads (λ plugin. plugin.now) result (plugin_at bytes.now) }
@@ -90,6 +95,7 @@ fn plugin_of(bytes: &[u8]) -> Result<&[u8], MsgFault>
     Ok(plugin)
 }
 
+/// The scramble of its two pieces.
 fn joined(first: &[u8; 8], last: &[u8; 12]) -> [u8; 20]
     ensures { result ≡ first.now ++ last.now }
 {
@@ -99,6 +105,7 @@ fn joined(first: &[u8; 8], last: &[u8; 12]) -> [u8; 20]
     scramble
 }
 
+/// The greeting that the payload is.
 #[tactic(auto, unfolding(crate::specs::GreetingLayout::greeting_at))]
 fn parts_of(payload: &[u8]) -> Result<Parts<'_>, MsgFault>
     ensures reads { Reads greeting_of result (greeting_at payload.now) }
@@ -127,7 +134,7 @@ impl Greeting {
     /// ends with the payload.
     #[tactic(auto, using(crate::proofs::MemoryLemmas::greeting_never))]
     pub fn decode(alloc: Global, payload: &[u8]) -> Result<Greeting, MsgFault>
-        ensures gives { Gives result (greeting_at payload.now) }
+        ensures gives { IsDecoded result (greeting_at payload.now) }
         ensures version { IfOk result (λ greeting. HasNoZero greeting.version) }
         ensures plugin { IfOk result (λ greeting. HasNoZero greeting.plugin) }
     {
@@ -157,6 +164,7 @@ impl Greeting {
         or_cut(self.put(out), before, out)
     }
 
+    /// Appends the payload; after an `Err` some of it may stand there.
     #[tactic(auto, unfolding(crate::specs::GreetingLayout::greeting_bytes))]
     fn put(&self, out: &mut Vec<u8>) -> Result<(), AllocError>
         ensures ok { OnOk result (out.new.items ≡ out.old.items ++ greeting_bytes self.now) }
@@ -167,6 +175,7 @@ impl Greeting {
         self.put_back(out)
     }
 
+    /// Appends what stands up to the capabilities' second half.
     #[tactic(auto, unfolding(crate::specs::GreetingLayout::front_bytes))]
     fn put_front(&self, out: &mut Vec<u8>) -> Result<(), AllocError>
         ensures ok { OnOk result (out.new.items ≡ out.old.items ++ front_bytes self.now) }
@@ -183,6 +192,7 @@ impl Greeting {
         out.extend_from_slice(&abilities)
     }
 
+    /// The capabilities' lower half, the character set, the status and the capabilities' upper half.
     #[tactic(auto, unfolding(crate::specs::GreetingLayout::abilities_bytes))]
     fn abilities(&self) -> [u8; 7]
         ensures bytes { result ≡ abilities_bytes self.now }
@@ -195,6 +205,7 @@ impl Greeting {
         [a, b, self.charset, e, f, c, d]
     }
 
+    /// Appends the data length, the filler, the scramble's second piece and the plugin.
     #[tactic(auto, unfolding(crate::specs::GreetingLayout::back_bytes))]
     fn put_back(&self, out: &mut Vec<u8>) -> Result<(), AllocError>
         ensures ok { OnOk result (out.new.items ≡ out.old.items ++ back_bytes self.now) }

@@ -8,10 +8,10 @@ mod eof_msg;
 mod err_msg;
 mod execute_head;
 mod fault;
+mod fields;
 mod greeting;
 mod ok_msg;
 mod prepare_ok;
-mod reading;
 mod response;
 pub mod status;
 mod switch;
@@ -19,12 +19,12 @@ mod writing;
 
 pub use eof_msg::EofMsg;
 pub use err_msg::{ErrMsg, err_code};
-pub use execute_head::ExecuteHead;
+pub use execute_head::{ExecuteHead, ExecuteParts};
 pub use fault::MsgFault;
+pub use fields::split_text;
 pub use greeting::Greeting;
 pub use ok_msg::{OkMsg, ok_status};
 pub use prepare_ok::PrepareOk;
-pub use reading::split_text;
 pub use response::Response;
 pub use switch::Switch;
 

@@ -1,12 +1,12 @@
-// The OK of a reply.
+//! The OK of a reply ("OK_Packet"). Which texts stand at its end is said by its status and by what both sides can.
 ghost use Rattle.std.specs.Prelude.{◌≡◌, ◌++◌, false, [], Ok, length, take, OnOk, OnErr, IfOk};
 ghost use Rattle.rws_msgs.specs.OkLayout.{IsOkMsg, OkFits, ok_at, ok_bytes, ok_status, state_at, texts_at, texts_bytes};
 ghost use Rattle.rws_msgs.specs.OkParts.{ok_of};
-ghost use Rattle.rws_msgs.specs.Reading.{Gives};
+ghost use Rattle.rws_msgs.specs.Decoding.{IsDecoded};
 ghost use Rattle.rws_wire.specs.Reading.{Reads};
 
 use crate::MsgFault;
-use crate::reading::{end, fixed_at, lenenc_at, split_text, u16_at};
+use crate::fields::{end, fixed_at, lenenc_at, split_text, u16_at};
 use crate::status::SESSION_STATE_CHANGED;
 use crate::writing::{or_cut, put_text, put_u16};
 use rws_wire::{Text, put_lenenc};
@@ -30,6 +30,7 @@ pub struct OkMsg {
     pub state: Text,
 }
 
+/// The fields, before texts are copied.
 #[derive(Clone, Copy)]
 struct Parts<'a> {
     affected: u64,
@@ -40,6 +41,7 @@ struct Parts<'a> {
     state: &'a [u8],
 }
 
+/// The state, where one is to stand.
 #[tactic(auto, unfolding(crate::specs::OkLayout::state_at))]
 fn state_of(stated: bool, bytes: &[u8]) -> Result<(&[u8], &[u8]), MsgFault>
     ensures reads { Reads (λ x. (x.0.now, x.1.now)) result (state_at stated bytes.now) }
@@ -52,6 +54,7 @@ fn state_of(stated: bool, bytes: &[u8]) -> Result<(&[u8], &[u8]), MsgFault>
     }
 }
 
+/// The info and the state, which may be left out together.
 #[tactic(auto, unfolding(crate::specs::OkLayout::texts_at, crate::specs::Fields::ended))]
 fn texts_of(stated: bool, bytes: &[u8]) -> Result<(&[u8], &[u8]), MsgFault>
     ensures reads { Reads (λ x. (x.0.now, x.1.now)) result (texts_at stated bytes.now) }
@@ -66,6 +69,7 @@ fn texts_of(stated: bool, bytes: &[u8]) -> Result<(&[u8], &[u8]), MsgFault>
     Ok((info, state))
 }
 
+/// The OK that the payload is.
 #[tactic(auto, unfolding(crate::specs::OkLayout::ok_at))]
 fn parts_of(payload: &[u8], track: bool) -> Result<Parts<'_>, MsgFault>
     ensures reads { Reads ok_of result (ok_at track payload.now) }
@@ -103,7 +107,7 @@ impl OkMsg {
     /// The OK in a payload. `track` says that both sides have CLIENT_SESSION_TRACK.
     #[tactic(auto, using(crate::proofs::MemoryLemmas::ok_never))]
     pub fn decode(alloc: Global, payload: &[u8], track: bool) -> Result<OkMsg, MsgFault>
-        ensures gives { Gives result (ok_at track payload.now) }
+        ensures gives { IsDecoded result (ok_at track payload.now) }
         ensures is { IfOk result (λ ok. IsOkMsg track ok) }
     {
         let parts = parts_of(payload, track)?;
@@ -132,6 +136,7 @@ impl OkMsg {
         or_cut(self.put(track, out), before, out)
     }
 
+    /// Appends the payload; after an `Err` some of it may stand there.
     #[tactic(auto, unfolding(crate::specs::OkLayout::ok_bytes))]
     fn put(&self, track: bool, out: &mut Vec<u8>) -> Result<(), AllocError>
         ensures ok { OnOk result (out.new.items ≡ out.old.items ++ ok_bytes track self.now) }
@@ -155,6 +160,7 @@ impl OkMsg {
     }
 }
 
+/// Appends the info and the state, or neither.
 #[tactic(auto, unfolding(crate::specs::OkLayout::texts_bytes))]
 fn put_texts(stated: bool, info: &[u8], state: &[u8], out: &mut Vec<u8>) -> Result<(), AllocError>
     ensures ok { OnOk result (out.new.items ≡ out.old.items ++ texts_bytes stated info.now state.now) }

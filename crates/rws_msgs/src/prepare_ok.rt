@@ -1,10 +1,10 @@
-// The answer to a prepare.
+//! The first packet of a reply to COM_STMT_PREPARE ("COM_STMT_PREPARE", COM_STMT_PREPARE response).
 ghost use Rattle.std.specs.Prelude.{◌≡◌, ◌++◌, Ok, OnOk, OnErr};
 ghost use Rattle.rws_msgs.specs.PrepareOkLayout.{PrepareOkFits, prepare_ok_at, prepare_ok_bytes};
 ghost use Rattle.rws_wire.specs.Reading.{Reads};
 
 use crate::MsgFault;
-use crate::reading::{end, fixed_at, u16_at, u32_at};
+use crate::fields::{end, fixed_at, u16_at, u32_at};
 use std::alloc::AllocError;
 
 /// COM_STMT_PREPARE response: a statement was prepared. The definitions of its parameters and columns follow.
@@ -16,6 +16,7 @@ pub struct PrepareOk {
     pub columns: u16,
     /// How many parameters it takes.
     pub parameters: u16,
+    /// How many warnings the command left.
     pub warnings: u16,
 }
 
@@ -52,6 +53,7 @@ impl PrepareOk {
         self.put(out)
     }
 
+    /// Appends the payload, without what is said of decoding it.
     #[tactic(auto, unfolding(crate::specs::PrepareOkLayout::prepare_ok_bytes))]
     fn put(&self, out: &mut Vec<u8>) -> Result<(), AllocError>
         ensures ok { OnOk result (out.new.items ≡ out.old.items ++ prepare_ok_bytes self.now) }

@@ -1,6 +1,7 @@
-// The client's answer to a greeting.
+//! The client's answer to a greeting ("Connection", Handshake Response Packet). Which fields stand there is said by its
+//! first, the flags.
 ghost use Rattle.std.specs.Prelude.{◌≡◌, ◌++◌, Ok, OnOk, OnErr, IfOk, length, take};
-ghost use Rattle.rws_msgs.specs.Reading.{Gives};
+ghost use Rattle.rws_msgs.specs.Decoding.{IsDecoded};
 ghost use Rattle.rws_wire.specs.Reading.{Reads};
 ghost use Rattle.rws_msgs.specs.ResponseLayout.{IsAnswer, IsName, IsResponse, ResponseFits, answer_at, answer_bytes, attributes_at, attributes_bytes, front_bytes, has, name_at, name_bytes, names_at, names_bytes, response_at, response_bytes, with_database, with_plugin};
 ghost use Rattle.rws_msgs.specs.ResponseParts.{name_of, response_of};
@@ -9,7 +10,7 @@ use crate::MsgFault;
 use crate::capability::{
     CONNECT_ATTRS, CONNECT_WITH_DB, PLUGIN_AUTH, PLUGIN_AUTH_LENENC_CLIENT_DATA,
 };
-use crate::reading::{bytes_at, end, last_text_at, split_text, u8_at, u32_at, zero_text_at};
+use crate::fields::{bytes_at, end, last_text_at, split_text, u8_at, u32_at, zero_text_at};
 use crate::writing::{or_cut, put_text, put_u32};
 use rws_wire::Text;
 use std::alloc::{AllocError, Global};
@@ -21,6 +22,7 @@ pub struct Response {
     pub flags: u32,
     /// The number of the character set.
     pub charset: u8,
+    /// The name of the account.
     pub user: Text,
     /// The answer to the scramble, or no bytes for an empty password.
     pub answer: Text,
@@ -30,8 +32,10 @@ pub struct Response {
     pub plugin: Option<Text>,
 }
 
+/// The greatest packet that is written, 16 MiB.
 const MAX_PACKET_LEN: u32 = 0x100_0000;
 
+/// The fields, before texts are copied.
 #[derive(Clone, Copy)]
 struct Parts<'a> {
     flags: u32,
@@ -42,6 +46,7 @@ struct Parts<'a> {
     plugin: Option<&'a [u8]>,
 }
 
+/// Whether the flags have the capability.
 #[tactic(auto, unfolding(crate::specs::ResponseLayout::has))]
 fn has(flags: u32, bit: u32) -> bool
     ensures { result ≡ has flags bit }
@@ -49,6 +54,7 @@ fn has(flags: u32, bit: u32) -> bool
     flags & bit != 0
 }
 
+/// The answer, behind its length.
 #[tactic(auto, unfolding(crate::specs::ResponseLayout::answer_at))]
 fn answer_of(lenenc: bool, bytes: &[u8]) -> Result<(&[u8], &[u8]), MsgFault>
     ensures fits { IfOk result (λ x. IsAnswer lenenc x.0.now) }
@@ -61,6 +67,7 @@ fn answer_of(lenenc: bool, bytes: &[u8]) -> Result<(&[u8], &[u8]), MsgFault>
     bytes_at(size as usize, rest)
 }
 
+/// A name that is there or not; the last one may lack its zero byte.
 #[tactic(auto, unfolding(crate::specs::ResponseLayout::name_at))]
 fn name_at(given: bool, last: bool, bytes: &[u8]) -> Result<(Option<&[u8]>, &[u8]), MsgFault>
     ensures reads { Reads (λ x. (name_of x.0, x.1.now)) result (name_at given last bytes.now) }
@@ -77,6 +84,7 @@ fn name_at(given: bool, last: bool, bytes: &[u8]) -> Result<(Option<&[u8]>, &[u8
     Ok((Some(text), rest))
 }
 
+/// What stands behind the attributes, where there are some.
 #[tactic(auto, unfolding(crate::specs::ResponseLayout::attributes_at))]
 fn behind_attributes(given: bool, bytes: &[u8]) -> Result<&[u8], MsgFault>
     ensures { Reads (λ rest. rest.now) result (attributes_at given bytes.now) }
@@ -88,12 +96,14 @@ fn behind_attributes(given: bool, bytes: &[u8]) -> Result<&[u8], MsgFault>
     Ok(rest)
 }
 
+/// The texts behind the answer.
 #[derive(Clone, Copy)]
 struct Names<'a> {
     database: Option<&'a [u8]>,
     plugin: Option<&'a [u8]>,
 }
 
+/// The database and the plugin, which end the payload but for attributes.
 #[tactic(auto, unfolding(crate::specs::ResponseLayout::names_at, crate::specs::Fields::ended))]
 fn names_of(flags: u32, bytes: &[u8]) -> Result<Names<'_>, MsgFault>
     ensures reads { Reads (λ names. (name_of names.database, name_of names.plugin)) result (names_at flags bytes.now) }
@@ -110,6 +120,7 @@ fn names_of(flags: u32, bytes: &[u8]) -> Result<Names<'_>, MsgFault>
     Ok(Names { database, plugin })
 }
 
+/// The response that the payload is.
 #[tactic(auto, unfolding(crate::specs::ResponseLayout::response_at))]
 fn parts_of(payload: &[u8]) -> Result<Parts<'_>, MsgFault>
     ensures reads { Reads response_of result (response_at payload.now) }
@@ -132,8 +143,9 @@ fn parts_of(payload: &[u8]) -> Result<Parts<'_>, MsgFault>
     })
 }
 
+/// A copy of a name that is there.
 fn copied(alloc: Global, name: Option<&[u8]>) -> Result<Option<Text>, MsgFault>
-    ensures { Gives result (Ok (name_of name.entry)) }
+    ensures { IsDecoded result (Ok (name_of name.entry)) }
 {
     match name {
         Some(text) => Ok(Some(Text::from_slice(alloc, text)?)),
@@ -146,7 +158,7 @@ impl Response {
     /// database or a plugin behind which nothing is to stand, may lack its zero byte.
     #[tactic(auto, using(crate::proofs::MemoryLemmas::response_never))]
     pub fn decode(alloc: Global, payload: &[u8]) -> Result<Response, MsgFault>
-        ensures gives { Gives result (response_at payload.now) }
+        ensures gives { IsDecoded result (response_at payload.now) }
         ensures fits { IfOk result IsResponse }
     {
         let parts = parts_of(payload)?;
@@ -177,6 +189,7 @@ impl Response {
         or_cut(self.put(out), before, out)
     }
 
+    /// Appends the payload; after an `Err` some of it may stand there.
     #[tactic(auto, unfolding(crate::specs::ResponseLayout::response_bytes))]
     fn put(&self, out: &mut Vec<u8>) -> Result<(), AllocError>
         ensures ok { OnOk result (out.new.items ≡ out.old.items ++ response_bytes self.now) }
@@ -189,6 +202,7 @@ impl Response {
         self.put_names(out)
     }
 
+    /// Appends what stands up to the user.
     #[tactic(auto, unfolding(crate::specs::ResponseLayout::front_bytes))]
     fn put_front(&self, out: &mut Vec<u8>) -> Result<(), AllocError>
         ensures ok { OnOk result (out.new.items ≡ out.old.items ++ front_bytes self.now) }
@@ -203,6 +217,7 @@ impl Response {
         Ok(())
     }
 
+    /// Appends the names, and an empty list of attributes where the flags have them.
     #[tactic(auto, unfolding(crate::specs::ResponseLayout::names_bytes, crate::specs::ResponseLayout::attributes_bytes))]
     fn put_names(&self, out: &mut Vec<u8>) -> Result<(), AllocError>
         ensures ok { OnOk result (out.new.items ≡ out.old.items ++ names_bytes self.now) }
@@ -217,6 +232,7 @@ impl Response {
     }
 }
 
+/// Appends the answer behind its length.
 #[tactic(auto, unfolding(crate::specs::ResponseLayout::answer_bytes))]
 fn put_answer(lenenc: bool, answer: &[u8], out: &mut Vec<u8>) -> Result<(), AllocError>
     ensures ok { OnOk result (out.new.items ≡ out.old.items ++ answer_bytes lenenc answer.now) }
@@ -229,6 +245,7 @@ fn put_answer(lenenc: bool, answer: &[u8], out: &mut Vec<u8>) -> Result<(), Allo
     out.extend_from_slice(answer)
 }
 
+/// Appends a name that is there.
 #[tactic(auto, unfolding(crate::specs::ResponseLayout::name_bytes))]
 fn put_name(name: &Option<Text>, out: &mut Vec<u8>) -> Result<(), AllocError>
     ensures ok { OnOk result (out.new.items ≡ out.old.items ++ name_bytes name.now) }

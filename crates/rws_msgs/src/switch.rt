@@ -1,13 +1,14 @@
-// The question for another authentication plugin.
+//! The question for another authentication plugin ("Connection", Authentication Switch Request).
 ghost use Rattle.std.specs.Prelude.{◌≡◌, ◌++◌, Ok, OnOk, OnErr, IfOk, length, take};
 ghost use Rattle.rws_msgs.specs.Fields.{HasNoZero};
-ghost use Rattle.rws_msgs.specs.Reading.{Gives};
+ghost use Rattle.rws_msgs.specs.Decoding.{IsDecoded};
 ghost use Rattle.rws_wire.specs.Reading.{Reads};
-ghost use Rattle.rws_msgs.specs.SwitchLayout.{switch_at, switch_bytes};
+ghost use Rattle.std.specs.Option.{option_map};
+ghost use Rattle.rws_msgs.specs.SwitchLayout.{asked_at, plugin_asked, switch_at, switch_bytes};
 ghost use Rattle.rws_msgs.specs.SwitchParts.{switch_of};
 
 use crate::MsgFault;
-use crate::reading::{array_at, end, fixed_at, zero_text_at};
+use crate::fields::{array_at, end, fixed_at, zero_text_at};
 use crate::writing::or_cut;
 use rws_wire::Text;
 use std::alloc::{AllocError, Global};
@@ -23,12 +24,23 @@ pub struct Switch {
     pub scramble: [u8; 20],
 }
 
+/// The fields, before the name is copied.
 #[derive(Clone, Copy)]
 struct Parts<'a> {
     plugin: &'a [u8],
     scramble: [u8; 20],
 }
 
+/// The plugin's name at the front, and its data behind that.
+#[tactic(auto, unfolding(crate::specs::SwitchLayout::asked_at))]
+fn asked(payload: &[u8]) -> Result<(&[u8], &[u8]), MsgFault>
+    ensures { Reads (λ x. (x.0.now, x.1.now)) result (asked_at payload.now) }
+{
+    let behind = fixed_at(0xFE, payload)?;
+    zero_text_at(behind)
+}
+
+/// The switch that the payload is.
 #[tactic(auto, unfolding(crate::specs::SwitchLayout::switch_at, crate::specs::Fields::ended))]
 fn parts_of(payload: &[u8]) -> Result<Parts<'_>, MsgFault>
     ensures reads { Reads switch_of result (switch_at payload.now) }
@@ -43,10 +55,22 @@ fn parts_of(payload: &[u8]) -> Result<Parts<'_>, MsgFault>
 }
 
 impl Switch {
+    /// The name of the plugin that a payload asks for, whatever data stands behind it; `None` where the payload doesn't
+    /// begin with 0xFE, a name and a zero byte. It takes no memory.
+    #[tactic(auto, unfolding(crate::specs::SwitchLayout::plugin_asked))]
+    pub fn plugin_of(payload: &[u8]) -> Option<&[u8]>
+        ensures { option_map (λ plugin. plugin.now) result ≡ plugin_asked payload.now }
+    {
+        match asked(payload) {
+            Ok((plugin, _)) => Some(plugin),
+            Err(_) => None,
+        }
+    }
+
     /// The switch in a payload.
     #[tactic(auto, using(crate::proofs::MemoryLemmas::switch_never))]
     pub fn decode(alloc: Global, payload: &[u8]) -> Result<Switch, MsgFault>
-        ensures gives { Gives result (switch_at payload.now) }
+        ensures gives { IsDecoded result (switch_at payload.now) }
         ensures no_zero { IfOk result (λ switch. HasNoZero switch.plugin) }
     {
         let parts = parts_of(payload)?;
@@ -70,6 +94,7 @@ impl Switch {
         or_cut(self.put(out), before, out)
     }
 
+    /// Appends the payload; after an `Err` some of it may stand there.
     #[tactic(auto, unfolding(crate::specs::SwitchLayout::switch_bytes))]
     fn put(&self, out: &mut Vec<u8>) -> Result<(), AllocError>
         ensures ok { OnOk result (out.new.items ≡ out.old.items ++ switch_bytes self.now) }

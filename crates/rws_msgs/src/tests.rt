@@ -1,4 +1,4 @@
-// Messages cut at each byte, and each message decoded and encoded once.
+//! Messages cut at each byte, and each message decoded and encoded once.
 
 use super::*;
 use rws_wire::Text;
@@ -6,7 +6,7 @@ use std::test::Fail;
 
 const OK: [u8; 10] = [0x00, 0x01, 0x02, 0x02, 0x40, 0x00, 0x00, 0x00, 0x01, 0x07];
 
-// With an info, and without tracking.
+/// With an info, and without tracking.
 const UNTRACKED: [u8; 10] = [0x00, 0x01, 0x02, 0x02, 0x40, 0x00, 0x00, 0x02, b'a', b'b'];
 
 const ERR: [u8; 10] = [0xFF, 0x17, 0x04, b'#', b'0', b'8', b'S', b'0', b'1', b'x'];
@@ -21,7 +21,7 @@ const PREPARE: [u8; 12] = [0x00, 7, 0, 0, 0, 1, 0, 2, 0, 0x00, 0, 0];
 
 const EXECUTE: [u8; 16] = [0x17, 7, 0, 0, 0, 0, 1, 0, 0, 0, 0x00, 1, 3, 0, b'a', b'b'];
 
-// A parameter without its types.
+/// A parameter without its types.
 const UNTYPED: [u8; 12] = [0x17, 7, 0, 0, 0, 0, 1, 0, 0, 0, 0x01, 0];
 
 const NO_PARAMETERS: [u8; 10] = [0x17, 7, 0, 0, 0, 0, 1, 0, 0, 0];
@@ -31,13 +31,13 @@ const GREETING: [u8; 49] = [
     0, 0, 0, 0, 0, 0, 0, 0, 0, 0, 9, 10, 11, 12, 13, 14, 15, 16, 17, 18, 19, 20, 0x00, b'p', 0x00,
 ];
 
-// With a database, a plugin, attributes and a length-encoded answer.
+/// With a database, a plugin, attributes and a length-encoded answer.
 const RESPONSE: [u8; 41] = [
     0x08, 0x00, 0x38, 0x00, 0, 0, 0, 1, 45, 0, 0, 0, 0, 0, 0, 0, 0, 0, 0, 0, 0, 0, 0, 0, 0, 0, 0,
     0, 0, 0, 0, 0, b'u', 0x00, 1, 7, b'd', 0x00, b'p', 0x00, 0x00,
 ];
 
-// With a database and a plugin, an answer behind one byte and no attributes.
+/// With a database and a plugin, an answer behind one byte and no attributes.
 const PLAIN_RESPONSE: [u8; 41] = [
     0x08, 0x00, 0x08, 0x00, 0, 0, 0, 1, 45, 0, 0, 0, 0, 0, 0, 0, 0, 0, 0, 0, 0, 0, 0, 0, 0, 0, 0,
     0, 0, 0, 0, 0, b'u', 0x00, 1, 7, b'd', 0x00, b'p', b'q', 0x00,
@@ -103,6 +103,7 @@ fn cut_messages_are_short(rt: HostRuntime) {
             short,
             "switch {n}"
         );
+        assert_eq!(rt; Switch::plugin_of(&SWITCH[..n]).is_some(), n >= 3);
     }
     for n in 0..PREPARE.len() {
         assert_eq!(rt;
@@ -191,6 +192,10 @@ fn other_faults(rt: HostRuntime) {
     );
     assert_eq!(rt; ok_status(&OK, true), Some(0x4002));
     assert_eq!(rt; err_code(&ERR), Some(1047));
+    assert_eq!(rt;
+        Switch::plugin_of(b"\xFEother\x00data"),
+        Some(b"other".as_slice())
+    );
 }
 
 #[test]

@@ -1,1 +1,3 @@
-pub mod Mixing
+-- digests mixed with a mask, and compared
+pub mod MixingLemmas
+pub mod ComparingLemmas

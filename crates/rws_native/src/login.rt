@@ -1,4 +1,4 @@
-// What a proxy keeps of a client's login, so that it can log in at a server as that client.
+//! What a proxy keeps of a client's login, so that it can log in at a server as that client.
 
 use crate::Stage1;
 use rws_wire::Text;
@@ -6,6 +6,7 @@ use rws_wire::Text;
 /// A login that was accepted. Who has its first stage can log in as the client, so it has no `Debug`.
 #[derive(Clone, PartialEq, Eq, Drop)]
 pub struct Login {
+    /// The name of the account.
     pub user: Text,
     /// What proves the password to a server; nothing where the account's password is empty.
     pub stage1: Option<Stage1>,

@@ -1,6 +1,7 @@
-// Answers to a scramble, the check of an answer, and the relay of a login to another server.
+//! Answers to a scramble, the check of an answer, and the relay of a login to another server. A first stage never leaves this
+//! module but as a `Stage1`, which shows no bytes.
 
-ghost use Rattle.std.specs.Prelude.{◌≡◌, ◌↔◌, List, ℕ, length, IsSome, IfSome};
+ghost use Rattle.std.specs.Prelude.{◌≡◌, ◌↔◌, List, ℕ, length, true, IsSome, IfSome};
 ghost use Rattle.sha1.specs.Sha1.{sha1};
 ghost use Rattle.rws_native.specs.Native.{xor, mask, answer_of, stage1_in};
 
@@ -10,7 +11,7 @@ use std::marker::Model;
 #[cfg(test)]
 mod tests;
 
-// The length of a SHA-1 digest and of a scramble, in bytes.
+/// The length of a SHA-1 digest and of a scramble, in bytes.
 const DIGEST_LEN: usize = 20;
 
 /// The first stage of a password, its SHA-1 digest. Who has it can log in without the password, so it has no `Debug`.
@@ -25,7 +26,7 @@ impl Model for Stage1 {
     ghost inverse = { λ bytes. record { 0 = bytes } };
 }
 
-// Mixes two digests byte by byte.
+/// Mixes two digests byte by byte.
 fn mixed(left: &[u8; DIGEST_LEN], right: &[u8; DIGEST_LEN]) -> [u8; DIGEST_LEN]
     ensures { result ≡ xor left.now right.now }
 {
@@ -36,7 +37,19 @@ fn mixed(left: &[u8; DIGEST_LEN], right: &[u8; DIGEST_LEN]) -> [u8; DIGEST_LEN]
     bytes
 }
 
-// The mask of a connection with this scramble.
+/// Whether two digests are the same. It looks at each byte, wherever they differ, so that the time it takes tells nothing
+/// of a stored digest.
+fn is_same(left: &[u8; DIGEST_LEN], right: &[u8; DIGEST_LEN]) -> bool
+    ensures { (result ≡ true) ↔ (left.now ≡ right.now) }
+{
+    let mut difference = 0;
+    for i in 0..DIGEST_LEN {
+        difference |= left[i] ^ right[i];
+    }
+    difference == 0
+}
+
+/// The mask of a connection with this scramble.
 fn mask_of(scramble: &[u8; DIGEST_LEN], stored: &[u8; DIGEST_LEN]) -> [u8; DIGEST_LEN]
     ensures { result ≡ mask scramble.now stored.now }
 {
@@ -74,7 +87,7 @@ pub fn check(answer: &[u8], scramble: &[u8; 20], stored: &[u8; 20]) -> Option<St
         return None;
     };
     let stage1 = mixed(&answer, &mask_of(scramble, stored));
-    if Sha1::digest(&stage1) != *stored {
+    if !is_same(&Sha1::digest(&stage1), stored) {
         return None;
     }
     Some(Stage1(stage1))

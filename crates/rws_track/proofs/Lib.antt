@@ -1,1 +1,2 @@
-pub mod Reading
+-- the variables that a state shows, and the last GTID among them
+pub mod StateLemmas

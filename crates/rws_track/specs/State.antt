@@ -6,7 +6,7 @@ use Rattle.std.specs.Result.{result_ok}
 use Rattle.std.specs.Cmp.Lexicographic.{pointwise}
 use Rattle.rws_msgs.specs.Fields.{text_at}
 use Rattle.rws_gtid.specs.declared.Gtid.{Gtid}
-use Rattle.rws_gtid.specs.Reading.{gtid_at}
+use Rattle.rws_gtid.specs.Parsing.{gtid_at}
 
 -- a system variable: its name and its value
 abbrev pub Variable : Type 0

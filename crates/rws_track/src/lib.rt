@@ -1,4 +1,4 @@
-//! What an OK reports of the state of its session: the GTID of the last commit.
+//! What an OK reports of the state of its session: the GTID of the last commit. A state that breaks off names none.
 #![tactic(auto)]
 
 mod state;

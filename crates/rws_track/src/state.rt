@@ -1,4 +1,5 @@
-// Reads the system variables in a session's state.
+//! The system variables in a session's state ("OK_Packet", session state information), read from left to right with the last
+//! GTID so far: what is left of the state, with that, gives what the whole gives.
 
 ghost use Rattle.std.specs.Prelude.{◌≡◌, List, ℕ, IfOk, OnErr};
 ghost use Rattle.std.specs.Option.{option_or};
@@ -7,7 +8,7 @@ ghost use Rattle.rws_track.specs.State.{Variable, AreVariables, EntryShows, Show
 use rws_gtid::{Gtid, parse};
 use rws_msgs::{MsgFault, split_text};
 
-// An entry or a variable breaks off.
+/// An entry or a variable breaks off.
 #[derive(Drop)]
 pub struct BrokenOff;
 
@@ -17,7 +18,7 @@ impl From<MsgFault> for BrokenOff {
     }
 }
 
-// The GTID of the domain that the variable names.
+/// The GTID of the domain that the variable names.
 fn gtid_of_variable(name: &[u8], value: &[u8], domain: u32) -> Option<Gtid>
     ensures { result ≡ gtid_in domain (name.now, value.now) }
 {
@@ -30,7 +31,7 @@ fn gtid_of_variable(name: &[u8], value: &[u8], domain: u32) -> Option<Gtid>
     }
 }
 
-// The last GTID of the domain among the variables, or else the one found before.
+/// The last GTID of the domain among the variables, or else the one found before.
 fn last_in_variables(
     bytes: &[u8],
     domain: u32,
@@ -51,10 +52,10 @@ fn last_in_variables(
     Ok(last)
 }
 
-// The type of an entry that holds system variables, `SESSION_TRACK_SYSTEM_VARIABLES`.
-const VARIABLES: u8 = 0;
+/// SESSION_TRACK_SYSTEM_VARIABLES: the type of an entry that holds system variables.
+const SYSTEM_VARIABLES: u8 = 0;
 
-// The last GTID of the domain that the entry names, or else the one found before.
+/// The last GTID of the domain that the entry names, or else the one found before.
 fn last_in_entry(
     kind: u8,
     bytes: &[u8],
@@ -66,12 +67,12 @@ fn last_in_entry(
     ensures broken { OnErr result ((shown : List Variable) → ¬ EntryShows kind bytes.now shown) }
 {
     match kind {
-        VARIABLES => last_in_variables(bytes, domain, found),
+        SYSTEM_VARIABLES => last_in_variables(bytes, domain, found),
         _ => Ok(found),
     }
 }
 
-// The last GTID of the domain that the state names.
+/// The last GTID of the domain that the state names.
 pub fn last_in_state(state: &[u8], domain: u32) -> Result<Option<Gtid>, BrokenOff>
     ensures read { IfOk result (λ last. (shown : List Variable) × Shows state.now shown
         × (last ≡ last_gtid domain shown)) }

@@ -1,4 +1,4 @@
-// OKs that name GTIDs, and their form for clients.
+//! OKs that name GTIDs, and their form for clients.
 
 use crate::{gtid_of, strip};
 use rws_gtid::Gtid;
@@ -7,16 +7,17 @@ use rws_wire::Text;
 use std::alloc::{AllocError, Global};
 use std::test::Fail;
 
-// An OK of one changed row that names the GTID 0-1-7.
+/// An OK of one changed row that names the GTID 0-1-7.
 const NAMED: &[u8] = b"\x00\x01\x00\x02\x40\x00\x00\x00\x12\x00\x10\x09last_gtid\x050-1-7";
 
-// A schema, which is an entry of another type, and then three GTIDs and a variable of another name.
+/// A schema, which is an entry of another type, and then three GTIDs and a variable of another name.
 const STATE: &[u8] =
     b"\x01\x02\x01t\x00\x20\x09last_gtid\x050-1-7\x09last_gtid\x050-1-8\x00\x14\x09last_gtid\x051-1-9\x01a\x01b";
 
-// Where the second entry of `STATE` ends, which names GTIDs of domain 0. Only the third names one of domain 1.
+/// Where the second entry of `STATE` ends, which names GTIDs of domain 0. Only the third names one of domain 1.
 const SECOND_ENDS: usize = 38;
 
+/// An OK with this state.
 fn ok_with(alloc: Global, state: &[u8]) -> Result<OkMsg, AllocError> {
     Ok(OkMsg {
         affected: 0,
@@ -28,6 +29,7 @@ fn ok_with(alloc: Global, state: &[u8]) -> Result<OkMsg, AllocError> {
     })
 }
 
+/// The GTID, and the OK for a client.
 #[test]
 fn named_gtid(rt: HostRuntime) -> Result<(), Fail> {
     let alloc = rt.alloc();
@@ -47,6 +49,7 @@ fn named_gtid(rt: HostRuntime) -> Result<(), Fail> {
     Ok(())
 }
 
+/// The last GTID counts, in a state that is whole.
 #[test]
 fn several_entries(rt: HostRuntime) -> Result<(), Fail> {
     let alloc = rt.alloc();
@@ -76,8 +79,8 @@ fn several_entries(rt: HostRuntime) -> Result<(), Fail> {
     Ok(())
 }
 
-// OKs of a MariaDB 10.11 server, with the sequence of the GTID that each names: of an UPDATE, CREATE PROCEDURE, SET
-// NAMES, SET autocommit, USE and a statement inside of a transaction.
+/// OKs of a MariaDB 10.11 server, with the sequence of the GTID that each names: of an UPDATE, CREATE PROCEDURE, SET
+/// NAMES, SET autocommit, USE and a statement inside of a transaction.
 const CAPTURED: [(&[u8], Option<u64>); 6] = [
     (
         b"\x00\x01\x00\x02@\x00\x00(Rows matched: 1  Changed: 1  Warnings: 0\x12\x00\x10\x09last_gtid\x050-1-4",
@@ -100,6 +103,7 @@ const CAPTURED: [(&[u8], Option<u64>); 6] = [
     (b"\x00\x01\x00\x03\x00\x00\x00", None),
 ];
 
+/// Each of the captured ones.
 #[test]
 fn oks_of_a_server(rt: HostRuntime) -> Result<(), Fail> {
     for (payload, sequence) in CAPTURED {

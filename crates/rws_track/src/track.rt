@@ -1,4 +1,4 @@
-// The GTID that an OK names, and the form of an OK for a client that doesn't track the session's state.
+//! The GTID that an OK names, and the form of an OK for a client that doesn't track the session's state.
 
 ghost use Rattle.std.specs.Prelude.{◌≡◌, List, IfOk, IsSome};
 ghost use Rattle.rws_track.specs.State.{Variable, Shows, last_gtid};

@@ -1,4 +1,5 @@
--- numbers and length-encoded integers
+-- reading from left to right, numbers and length-encoded integers
+pub mod ReadingLemmas
 pub mod NumberLemmas
 pub mod LenencLemmas
 -- one packet, then one payload, read and written

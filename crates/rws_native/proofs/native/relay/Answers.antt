@@ -1,4 +1,4 @@
-use Rattle.rws_native.proofs.Mixing.{found_in}
+use Rattle.rws_native.proofs.MixingLemmas.{found_in}
 use Rattle.rws_native.proofs.native.relay.Goals as goal
 
 pub returns-clause-found : goal.returns-clause-found

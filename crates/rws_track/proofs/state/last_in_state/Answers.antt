@@ -1,7 +1,7 @@
 use Rattle.std.proofs.Common.{arith, length-drop}
 use Rattle.std.proofs.lemmas.List.{take_rest}
 use Rattle.rws_msgs.proofs.FieldLemmas.{text_shorter}
-use Rattle.rws_track.proofs.Reading.{entry_broken, inner_broken, one_entry, no_bytes, on_err, is_cons}
+use Rattle.rws_track.proofs.StateLemmas.{entry_broken, inner_broken, one_entry, no_bytes, on_err, is_cons}
 use Rattle.rws_track.proofs.state.last_in_state.Goals as goal
 
 pub returns-in_err-inner-clause-broken : goal.returns-in_err-inner-clause-broken

@@ -1,5 +1,5 @@
 use Rattle.std.proofs.Common.{length}
-use Rattle.rws_track.proofs.Reading.{EntriesLeft}
+use Rattle.rws_track.proofs.StateLemmas.{EntriesLeft}
 use Rattle.rws_track.proofs.state.last_in_state.Given as goal
 
 abbrev pub invariant-loop-rest : goal.invariant-loop-rest

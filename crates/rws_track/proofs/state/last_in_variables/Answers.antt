@@ -1,6 +1,6 @@
 use Rattle.std.proofs.Common.{arith}
 use Rattle.rws_msgs.proofs.FieldLemmas.{text_shorter}
-use Rattle.rws_track.proofs.Reading.{name_broken, value_broken, one_variable, variables_end, on_err, is_longer, is_none}
+use Rattle.rws_track.proofs.StateLemmas.{name_broken, value_broken, one_variable, variables_end, on_err, is_longer, is_none}
 use Rattle.rws_track.proofs.state.last_in_variables.Goals as goal
 
 pub returns-in_err-name-clause-broken : goal.returns-in_err-name-clause-broken

@@ -1,5 +1,5 @@
 use Rattle.std.proofs.Common.{◌∙◌}
-use Rattle.rws_track.proofs.Reading.{named_by}
+use Rattle.rws_track.proofs.StateLemmas.{named_by}
 use Rattle.rws_track.proofs.track.gtid_of.Goals as goal
 
 pub returns-clause-named : goal.returns-clause-named

@@ -1,5 +1,0 @@
-use Rattle.rws_gtid.proofs.Digits.{digits_in_run}
-use Rattle.rws_gtid.proofs.reading.digits.Goals as goal
-
-pub returns-in_default-clause-digits : goal.returns-in_default-clause-digits
-returns-in_default-clause-digits c = rw c.digit_run.ensures (digits_in_run c.args.bytes.now)

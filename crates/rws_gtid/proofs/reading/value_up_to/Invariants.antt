@@ -1,5 +1,0 @@
-use Rattle.rws_gtid.proofs.Digits.{Counted}
-use Rattle.rws_gtid.proofs.reading.value_up_to.Given as goal
-
-abbrev pub invariant-loop-digit : goal.invariant-loop-digit
-invariant-loop-digit l = Counted l.digits l.digit-index l.value l.most
