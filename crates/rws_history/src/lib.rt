@@ -8,7 +8,9 @@ mod cursor_list;
 mod entry;
 mod fault;
 mod history;
+mod law;
 
 pub use entry::Entry;
 pub use fault::PushFault;
 pub use history::History;
+pub use law::{cursors_are_a_map, places_follow_serials, steps_by_serials};
