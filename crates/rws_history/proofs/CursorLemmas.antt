@@ -1,5 +1,5 @@
 -- What the loops and look-ups of a list of cursors make of it.
-use Rattle.std.proofs.Common.{◌≡◌, ◌<◌, ◌==◌, ℕ, zero, suc, ◌+◌, Bool, true, false, cond, List, [], ◌∷◌, ◌++◌, map, length, get_or, set, take, drop, Option, Some, None, position, find, refl, sym, ap, ◌∙◌, arith, add-one}
+use Rattle.std.proofs.Common.{◌≡◌, ◌<◌, ◌==◌, ℕ, zero, suc, ◌+◌, true, false, cond, List, [], ◌∷◌, ◌++◌, map, length, get_or, set, take, drop, Some, None, position, find, refl, sym, ap, ◌∙◌, arith, add-one}
 use Rattle.std.specs.List.{position_from}
 use Rattle.std.specs.Option.{option_map}
 use Rattle.std.proofs.lemmas.List.Quantifiers.{position-Some}
@@ -51,7 +51,7 @@ placed_behind : (link at n : ℕ) (cursors : List LinkCursor) → position_from 
 placed_behind link at n [] none = refl
 placed_behind link at n (c ∷ cs) none =
     elim (c.link == link) as (λ b. cond b (Some n) (position_from (is_of link) (n + 1) cs) ≡ None
-        → cond b (record { link = link; at = at } ∷ cs) (c ∷ placed cs link at) ≡ c ∷ (cs ++ record { link = link; at = at } ∷ [])) [
+    → cond b (record { link = link; at = at } ∷ cs) (c ∷ placed cs link at) ≡ c ∷ (cs ++ record { link = link; at = at } ∷ [])) [
       | true ↦ λ e. absurd (cc (e))
       | false ↦ λ e. ap (λ xs. c ∷ xs) (placed_behind link at (n + 1) cs e)
     ] none
@@ -60,7 +60,7 @@ found_nowhere : (link n : ℕ) (cursors : List LinkCursor) → position_from (is
 found_nowhere link n [] none = refl
 found_nowhere link n (c ∷ cs) none =
     elim (c.link == link) as (λ b. cond b (Some n) (position_from (is_of link) (n + 1) cs) ≡ None
-        → option_map (λ (cursor : LinkCursor). cursor.at) (cond b (Some c) (find (is_of link) cs)) ≡ None) [
+    → option_map (λ (cursor : LinkCursor). cursor.at) (cond b (Some c) (find (is_of link) cs)) ≡ None) [
       | true ↦ λ e. absurd (cc (e))
       | false ↦ λ e. found_nowhere link (n + 1) cs e
     ] none

@@ -1,5 +1,5 @@
 -- A list of cursors is a map from links to places: what each change of the list makes of a look-up.
-use Rattle.std.proofs.Common.{◌≡◌, ◌≢◌, ◌==◌, ℕ, Bool, true, false, cond, not, List, [], ◌∷◌, map, filter, find, Option, Some, None, refl, sym, ◌∙◌, ap, subst, eq-eqb, ne_eqb, ⊎_elim}
+use Rattle.std.proofs.Common.{◌≡◌, ◌≢◌, ◌==◌, ℕ, true, false, cond, not, List, [], ◌∷◌, find, Some, None, refl, sym, ◌∙◌, ap, eq-eqb, ne_eqb, ⊎_elim}
 use Rattle.std.specs.Option.{option_map}
 use Rattle.std.proofs.lemmas.Bool.{eqb-true, cases_eq}
 use Rattle.rws_history.specs.declared.cursor_list.LinkCursor.{LinkCursor}
@@ -18,8 +18,8 @@ other-placed [] link at other ne = rw (ne_eqb link other ne) refl
 other-placed (c ∷ cs) link at other ne =
     elim (c.link == link) as (λ b. (c.link == link) ≡ b → cursor_of (cond b (record { link = link; at = at } ∷ cs) (c ∷ placed cs link at)) other ≡ cursor_of (c ∷ cs) other) [
       | true ↦ λ same.
-        let its : c.link ≢ other = λ e. ne (sym (eqb-true c.link link same) ∙ e) in
-        rw (ne_eqb link other ne) (rw (ne_eqb c.link other its) refl)
+          let its : c.link ≢ other = λ e. ne (sym (eqb-true c.link link same) ∙ e) in
+          rw (ne_eqb link other ne) (rw (ne_eqb c.link other its) refl)
       | false ↦ λ apart. elim (c.link == other) as (λ b. option_map (λ (x : LinkCursor). x.at) (cond b (Some c) (find (is_of other) (placed cs link at)))
           ≡ option_map (λ (x : LinkCursor). x.at) (cond b (Some c) (find (is_of other) cs))) [ true ↦ refl | false ↦ other-placed cs link at other ne ]
     ] refl
@@ -37,8 +37,8 @@ other-without [] link other ne = refl
 other-without (c ∷ cs) link other ne =
     elim (c.link == link) as (λ b. (c.link == link) ≡ b → cursor_of (cond (not b) (c ∷ without cs link) (without cs link)) other ≡ cursor_of (c ∷ cs) other) [
       | true ↦ λ same.
-        let its : c.link ≢ other = λ e. ne (sym (eqb-true c.link link same) ∙ e) in
-        rw (ne_eqb c.link other its) (other-without cs link other ne)
+          let its : c.link ≢ other = λ e. ne (sym (eqb-true c.link link same) ∙ e) in
+          rw (ne_eqb c.link other its) (other-without cs link other ne)
       | false ↦ λ apart. elim (c.link == other) as (λ b. option_map (λ (x : LinkCursor). x.at) (cond b (Some c) (find (is_of other) (without cs link)))
           ≡ option_map (λ (x : LinkCursor). x.at) (cond b (Some c) (find (is_of other) cs))) [ true ↦ refl | false ↦ other-without cs link other ne ]
     ] refl
@@ -47,7 +47,7 @@ pub each-lowered : (removed : ℕ) (cursors : List LinkCursor) (other : ℕ) →
 each-lowered removed [] other = refl
 each-lowered removed (c ∷ cs) other =
     elim (c.link == other) as (λ b. option_map (λ (x : LinkCursor). x.at) (cond b (Some (record { link = c.link; at = lowered removed c.at })) (find (is_of other) (all_lowered removed cs)))
-        ≡ option_map (lowered removed) (option_map (λ (x : LinkCursor). x.at) (cond b (Some c) (find (is_of other) cs)))) [
+    ≡ option_map (lowered removed) (option_map (λ (x : LinkCursor). x.at) (cond b (Some c) (find (is_of other) cs)))) [
       | true ↦ refl
       | false ↦ each-lowered removed cs other
     ]

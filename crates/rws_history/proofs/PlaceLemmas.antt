@@ -1,5 +1,5 @@
 -- After each call the mark and the cursors are places in the list of entries or its end.
-use Rattle.std.proofs.Common.{◌≡◌, ◌<◌, ◌≤◌, ◌==◌, ℕ, ◌+◌, ◌-◌, Bool, true, false, cond, nat_lt, List, [], ◌∷◌, map, length, All, Option, Some, None, Ok, Err, Result, find, refl, sym, subst, arith}
+use Rattle.std.proofs.Common.{◌≡◌, ◌<◌, ◌≤◌, ◌==◌, ℕ, ◌+◌, ◌-◌, Bool, true, false, cond, nat_lt, List, [], ◌∷◌, All, Option, Some, None, Ok, Err, Result, find, refl, sym, subst, arith}
 use Rattle.std.specs.Prelude.{IfSome, IsSomeAnd, OnOk, OnErr}
 use Rattle.std.specs.Option.{option_map}
 use Rattle.std.proofs.lemmas.List.Elements.{All-nil, All-cons, All-head, All-tail}

@@ -1,7 +1,6 @@
 -- How the place of a serial number changes.
-use Rattle.std.proofs.Common.{◌≡◌, ◌<◌, ◌≤◌, ◌⊎◌, ⊎_elim, ℕ, zero, suc, ◌+◌, ◌-◌, Bool, true, false, cond, nat_lt, List, [], ◌∷◌, ◌++◌, length, filter, remove, slice_get, Option, Some, None, refl, sym, ◌∙◌, ap, subst, arith, add-one}
+use Rattle.std.proofs.Common.{◌≡◌, ◌<◌, ◌≤◌, ⊎_elim, ℕ, zero, suc, ◌+◌, nat_lt, List, [], ◌∷◌, ◌++◌, length, filter, remove, slice_get, Some, refl, sym, ◌∙◌, ap, subst, arith, add-one}
 use Rattle.std.proofs.lemmas.Bool.{lt-ltb, le-ltb, cases_lt}
-use Rattle.std.proofs.lemmas.Grind.{common_steps}
 use Rattle.rws_history.specs.Cursors.{lowered}
 use Rattle.rws_history.specs.Serials.{place_of, AreSerials, PlacesFollow}
 
@@ -58,17 +57,17 @@ place_of-remove (s ∷ ss) first next zero at are inside =
     ⊎_elim
     (λ less. sym (lowered-first (place_of ss at)) ∙ ap (lowered 0) (sym (place_of-behind s at ss less)))
     (λ more.
-      let none = place_of-first ss (s + 1) next at are.1 (omega (arith, more)) in
-      none ∙ sym (lowered-zero 0) ∙ ap (lowered 0) (sym (place_of-before s at ss more ∙ none)))
+    let none = place_of-first ss (s + 1) next at are.1 (omega (arith, more)) in
+    none ∙ sym (lowered-zero 0) ∙ ap (lowered 0) (sym (place_of-before s at ss more ∙ none)))
     (cases_lt s at)
 place_of-remove (s ∷ ss) first next (suc place) at are inside =
     let rest = place_of-remove ss (s + 1) next place at are.1 (omega (arith, inside)) in
     ⊎_elim
     (λ less. place_of-behind s at (remove ss place) less ∙ ap (λ n. n + 1) rest ∙ sym (lowered-both place (place_of ss at)) ∙ ap (lowered (suc place)) (sym (place_of-behind s at ss less)))
     (λ more.
-      let none = place_of-first ss (s + 1) next at are.1 (omega (arith, more)) in
-      place_of-before s at (remove ss place) more ∙ rest ∙ ap (lowered place) none ∙ lowered-zero place ∙ sym (lowered-zero (suc place))
-      ∙ ap (lowered (suc place)) (sym (place_of-before s at ss more ∙ none)))
+    let none = place_of-first ss (s + 1) next at are.1 (omega (arith, more)) in
+    place_of-before s at (remove ss place) more ∙ rest ∙ ap (lowered place) none ∙ lowered-zero place ∙ sym (lowered-zero (suc place))
+    ∙ ap (lowered (suc place)) (sym (place_of-before s at ss more ∙ none)))
     (cases_lt s at)
 
 place_of-next : (serials : List ℕ) (first next at serial : ℕ) → AreSerials first serials next → slice_get serials (place_of serials at) ≡ Some serial
@@ -77,16 +76,16 @@ place_of-next [] first next at serial are there = absurd (cc (there))
 place_of-next (s ∷ ss) first next at serial are there =
     ⊎_elim
     (λ less.
-      let behind = place_of-behind s at ss less in
-      let later : slice_get ss (place_of ss at) ≡ Some serial = subst (λ k. slice_get (s ∷ ss) k ≡ Some serial) (behind ∙ add-one (place_of ss at)) there in
-      let above = from_first ss (s + 1) next (place_of ss at) serial are.1 later in
-      place_of-behind s (serial + 1) ss (omega (arith, above)) ∙ ap (λ n. n + 1) (place_of-next ss (s + 1) next at serial are.1 later) ∙ ap (λ n. n + 1) (sym behind))
+    let behind = place_of-behind s at ss less in
+    let later : slice_get ss (place_of ss at) ≡ Some serial = subst (λ k. slice_get (s ∷ ss) k ≡ Some serial) (behind ∙ add-one (place_of ss at)) there in
+    let above = from_first ss (s + 1) next (place_of ss at) serial are.1 later in
+    place_of-behind s (serial + 1) ss (omega (arith, above)) ∙ ap (λ n. n + 1) (place_of-next ss (s + 1) next at serial are.1 later) ∙ ap (λ n. n + 1) (sym behind))
     (λ more.
-      let none = place_of-before s at ss more ∙ place_of-first ss (s + 1) next at are.1 (omega (arith, more)) in
-      let here : slice_get (s ∷ ss) 0 ≡ Some serial = subst (λ k. slice_get (s ∷ ss) k ≡ Some serial) none there in
-      let same : s ≡ serial = cc in
-      let last : place_of ss (serial + 1) ≡ 0 = place_of-first ss (s + 1) next (serial + 1) are.1 (omega (arith, same)) in
-      place_of-behind s (serial + 1) ss (omega (arith, same)) ∙ ap (λ n. n + 1) last ∙ ap (λ n. n + 1) (sym none))
+    let none = place_of-before s at ss more ∙ place_of-first ss (s + 1) next at are.1 (omega (arith, more)) in
+    let here : slice_get (s ∷ ss) 0 ≡ Some serial = subst (λ k. slice_get (s ∷ ss) k ≡ Some serial) none there in
+    let same : s ≡ serial = cc in
+    let last : place_of ss (serial + 1) ≡ 0 = place_of-first ss (s + 1) next (serial + 1) are.1 (omega (arith, same)) in
+    place_of-behind s (serial + 1) ss (omega (arith, same)) ∙ ap (λ n. n + 1) last ∙ ap (λ n. n + 1) (sym none))
     (cases_lt s at)
 
 place_of-end : (serials : List ℕ) (first next : ℕ) → AreSerials first serials next → place_of serials next ≡ length serials

@@ -1,5 +1,5 @@
 -- A step of a history by place is one by serial number.
-use Rattle.std.proofs.Common.{◌≡◌, ◌≢◌, ◌<◌, ◌==◌, ℕ, ◌+◌, Bool, true, false, cond, List, [], ◌∷◌, ◌++◌, length, remove, slice_get, Option, Some, None, refl, sym, ◌∙◌, ap, subst, arith, eq-eqb, ne_eqb, ⊎_elim, length-append}
+use Rattle.std.proofs.Common.{◌≡◌, ◌≢◌, ◌<◌, ℕ, ◌+◌, List, [], ◌∷◌, ◌++◌, length, remove, slice_get, Option, Some, None, refl, sym, ◌∙◌, ap, subst, arith, eq-eqb, ne_eqb, ⊎_elim, length-append}
 use Rattle.std.specs.Option.{option_map}
 use Rattle.std.proofs.lemmas.Bool.{cases_eq}
 use Rattle.std.proofs.lemmas.List.Edits.{length-remove}
@@ -7,7 +7,7 @@ use Rattle.rws_history.specs.declared.entry.Entry.{Entry}
 use Rattle.rws_history.specs.declared.cursor_list.LinkCursor.{LinkCursor}
 use Rattle.rws_history.specs.Cursors.{cursor_of, placed, moved, without, lowered}
 use Rattle.rws_history.specs.Histories.{HistoryView, pushed, removed, link_added, advanced, link_dropped, mark_set}
-use Rattle.rws_history.specs.Serials.{place_of, AreSerials, PlacesFollow, updated, IsByPlace, AreUpTo, StepsAgree}
+use Rattle.rws_history.specs.Serials.{place_of, PlacesFollow, updated, IsByPlace, AreUpTo, StepsAgree}
 use Rattle.rws_history.proofs.LinkLemmas.{own-placed, other-placed, own-without, other-without, each-lowered}
 
 -- a look-up behind a change of one link
@@ -49,9 +49,9 @@ module _ (history : HistoryView) (serials : List ℕ) (next : ℕ) (cursors : �
   takes_out : (place : ℕ) → place < length serials → IsByPlace (removed history place) (remove serials place) cursors mark
   takes_out place inside = record {
     kept =
-      let entries = length-remove history.entries place (omega (arith, inside, was.kept)) in
-      let numbers = length-remove serials place inside in
-      omega (arith, entries, numbers, was.kept);
+        let entries = length-remove history.entries place (omega (arith, inside, was.kept)) in
+        let numbers = length-remove serials place inside in
+        omega (arith, entries, numbers, was.kept);
     links = λ link. each-lowered place history.cursors link ∙ ap (option_map (lowered place)) (was.links link)
         ∙ each_place serials (remove serials place) (lowered place) (cursors link) (λ at is. sym (follow.takes_out place at inside));
     marked = ap (lowered place) was.marked ∙ sym (follow.takes_out place mark inside);
@@ -75,7 +75,7 @@ module _ (history : HistoryView) (serials : List ℕ) (next : ℕ) (cursors : �
         kept = was.kept;
         links = subst (λ (new : List LinkCursor). (other : ℕ) → cursor_of new other ≡ option_map (place_of serials) (updated cursors link (Some (serial + 1)) other)) (sym changed)
             (one_link history.cursors (placed history.cursors link place) serials cursors link (Some (serial + 1)) was.links
-              (own-placed history.cursors link place) (other-placed history.cursors link place));
+            (own-placed history.cursors link place) (other-placed history.cursors link place));
         marked = was.marked;
       }
 

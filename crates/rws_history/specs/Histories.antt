@@ -1,5 +1,5 @@
 -- What a history holds, and what each call makes of it.
-use Rattle.std.specs.Prelude.{◌≡◌, ℕ, ◌<◌, ◌≤◌, ◌==◌, Bool, List, [], ◌∷◌, ◌++◌, length, remove, All}
+use Rattle.std.specs.Prelude.{ℕ, ◌≤◌, List, [], ◌∷◌, ◌++◌, length, remove, All}
 use Rattle.rws_history.specs.declared.entry.Entry.{Entry}
 use Rattle.rws_history.specs.declared.cursor_list.LinkCursor.{LinkCursor}
 use Rattle.rws_history.specs.Cursors.{cursor_of, placed, moved, without, lowered, all_lowered}

@@ -14,3 +14,6 @@ pub use entry::Entry;
 pub use fault::PushFault;
 pub use history::History;
 pub use law::{cursors_are_a_map, places_follow_serials, steps_by_serials};
+
+#[cfg(test)]
+mod tests;

@@ -1,4 +1,4 @@
-use Rattle.std.proofs.Common.{◌<◌, List, Option, ℕ, length, All, sym, subst}
+use Rattle.std.proofs.Common.{◌<◌, List, length, All, sym, subst}
 use Rattle.std.specs.Prelude.{IsSomeAnd}
 use Rattle.rws_history.specs.declared.cursor_list.LinkCursor.{LinkCursor}
 use Rattle.rws_history.specs.Cursors.{cursor_of}

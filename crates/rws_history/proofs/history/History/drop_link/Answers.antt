@@ -11,5 +11,5 @@ invariant_of-self c =
       bounded = c.self.invariant.bounded;
       mark = c.self.invariant.mark;
       cursors = subst (λ (cursors : List LinkCursor). All (IsUpTo n) cursors) (sym c.forget.ensures)
-        (All-filter (λ (cursor : LinkCursor). not (cursor.link == c.args.link)) (IsUpTo n) c.self.inside.cursors c.self.invariant.cursors);
+          (All-filter (λ (cursor : LinkCursor). not (cursor.link == c.args.link)) (IsUpTo n) c.self.inside.cursors c.self.invariant.cursors);
     }
