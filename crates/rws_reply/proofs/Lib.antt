@@ -1,5 +1,8 @@
-pub mod Apart
-pub mod Runs
-pub mod Whole
-pub mod Made
-pub mod Judged
+-- what payloads are
+pub mod PayloadLemmas
+-- the machine accepts the grammar, and nothing else
+pub mod RunLemmas
+pub mod RepliesRun
+pub mod RunsAreReplies
+-- what a tracker says
+pub mod ProgressLemmas

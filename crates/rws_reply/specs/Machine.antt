@@ -7,21 +7,23 @@ use Rattle.rws_reply.specs.declared.kind.Kind.TheVariants as kinds
 use Rattle.rws_reply.specs.declared.awaits.Awaits.{Awaits}
 use Rattle.rws_reply.specs.declared.awaits.Awaits.TheVariants.{Simple, Query, Definitions, Rows, Prepare, Parameters, Columns, FieldList, Fields}
 use Rattle.rws_reply.specs.declared.awaits.Step.{Step}
-use Rattle.rws_reply.specs.declared.awaits.Step.TheVariants.{Goes, Done, Failed, Wrong}
+use Rattle.rws_reply.specs.declared.awaits.Step.TheVariants.{Goes, Ends, Wrong}
 use Rattle.rws_reply.specs.Payloads.{has_more_results, eof_status, column_count, is_definition, is_row, prepared_counts}
-use Rattle.rws_reply.specs.Replies.{Payload, Outcome, Accepted, Refused, autocommit}
+use Rattle.rws_reply.specs.declared.kind.Outcome.{Outcome}
+use Rattle.rws_reply.specs.declared.kind.Outcome.TheVariants.{Done, Failed}
+use Rattle.rws_reply.specs.Replies.{Payload, autocommit}
 
 abbrev pub given : {A : Type 0} → Option A → (A → Step) → Step → Step
 given (Some x) goes otherwise = goes x
 given None goes otherwise = otherwise
 
 -- what an OK or a last EOF of a query leads to
-abbrev pub after_result : ℕ → Step
-after_result status = if has_more_results status then Goes Query else Done status
+abbrev pub behind_result : ℕ → Step
+behind_result status = if has_more_results status then Goes Query else Ends (Done status)
 
 -- what the parts of a prepared statement lead to, behind the status so far
 abbrev pub to_columns : ℕ → ℕ → Step
-to_columns columns status = if columns == 0 then Done status else Goes (Columns columns)
+to_columns columns status = if columns == 0 then Ends (Done status) else Goes (Columns columns)
 
 abbrev pub to_parameters : ℕ × ℕ → Step
 to_parameters counts = if counts.1 == 0 then to_columns counts.0 autocommit else Goes (Parameters counts.1 counts.0)
@@ -34,39 +36,39 @@ defined left payload fewer behind =
 
 -- what one more payload leads to
 abbrev pub next : Awaits → Payload → Step
-next Simple p = given (ok_status true p) (λ status. Done status) (given (err_code p) (λ code. Failed code) Wrong)
+next Simple p = given (ok_status true p) (λ status. Ends (Done status)) (given (err_code p) (λ code. Ends (Failed code)) Wrong)
 next Query p =
-    given (ok_status true p) after_result
-    (given (err_code p) (λ code. Failed code) (given (column_count p) (λ count. Goes (Definitions count)) Wrong))
+    given (ok_status true p) behind_result
+    (given (err_code p) (λ code. Ends (Failed code)) (given (column_count p) (λ count. Goes (Definitions count)) Wrong))
 next (Definitions left) p = defined left p (λ left. Goes (Definitions left)) (λ _. Goes Rows)
 next Rows p =
-    given (eof_status p) after_result (given (err_code p) (λ code. Failed code) (if is_row p then Goes Rows else Wrong))
-next Prepare p = given (err_code p) (λ code. Failed code) (given (prepared_counts p) to_parameters Wrong)
+    given (eof_status p) behind_result (given (err_code p) (λ code. Ends (Failed code)) (if is_row p then Goes Rows else Wrong))
+next Prepare p = given (err_code p) (λ code. Ends (Failed code)) (given (prepared_counts p) to_parameters Wrong)
 next (Parameters left columns) p = defined left p (λ left. Goes (Parameters left columns)) (to_columns columns)
-next (Columns left) p = defined left p (λ left. Goes (Columns left)) (λ status. Done status)
+next (Columns left) p = defined left p (λ left. Goes (Columns left)) (λ status. Ends (Done status))
 next FieldList p =
-    given (err_code p) (λ code. Failed code)
-    (given (eof_status p) (λ status. Done status) (if is_definition p then Goes Fields else Wrong))
-next Fields p = given (eof_status p) (λ status. Done status) (if is_definition p then Goes Fields else Wrong)
+    given (err_code p) (λ code. Ends (Failed code))
+    (given (eof_status p) (λ status. Ends (Done status)) (if is_definition p then Goes Fields else Wrong))
+next Fields p = given (eof_status p) (λ status. Ends (Done status)) (if is_definition p then Goes Fields else Wrong)
 
--- what a list of payloads is: a whole reply, less than one, or neither
-pub data Verdict : Type 0 where
-  Whole : (out : Outcome) → Verdict
-  Begun : (awaits : Awaits) → Verdict
-  Neither : Verdict
+-- what a list of payloads comes to: a whole reply that ended so, the beginning of one that waits for more, or neither
+pub data Standing : Type 0 where
+  Ended : (out : Outcome) → Standing
+  Waits : (awaits : Awaits) → Standing
+  Stuck : Standing
 
-abbrev pub ends : Outcome → List Payload → Verdict
-ends out [] = Whole out
-ends out (p ∷ ps) = Neither
+-- a reply that has ended so, with what follows its last payload: nothing may
+abbrev pub ended_with : Outcome → List Payload → Standing
+ended_with out [] = Ended out
+ended_with out (p ∷ ps) = Stuck
 
-abbrev pub proceed : Step → List Payload → (Awaits → Verdict) → Verdict
+abbrev pub proceed : Step → List Payload → (Awaits → Standing) → Standing
 proceed (Goes awaits) ps others = others awaits
-proceed (Done status) ps others = ends (Accepted status) ps
-proceed (Failed code) ps others = ends (Refused code) ps
-proceed Wrong ps others = Neither
+proceed (Ends out) ps others = ended_with out ps
+proceed Wrong ps others = Stuck
 
-abbrev pub run : List Payload → Awaits → Verdict
-run [] awaits = Begun awaits
+abbrev pub run : List Payload → Awaits → Standing
+run [] awaits = Waits awaits
 run (p ∷ ps) awaits = proceed (next awaits p) ps (run ps)
 
 abbrev pub first : Kind → Awaits

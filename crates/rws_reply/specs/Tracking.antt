@@ -1,26 +1,31 @@
--- What a tracker has taken, and what it says of the payloads so far.
-use Rattle.std.specs.Prelude.{◌≡◌, List, Option, Some, None, Result, Ok, Err}
+-- What is said of a reply payload by payload, as functions of the payloads that came. `law.rt` says of them, in the terms of
+-- the grammar, when each answer comes.
+use Rattle.std.specs.Prelude.{List, [], ◌∷◌, ◌++◌, Option, Some, None}
 use Rattle.rws_reply.specs.declared.kind.Kind.{Kind}
 use Rattle.rws_reply.specs.declared.kind.Progress.{Progress}
-use Rattle.rws_reply.specs.declared.kind.Progress.TheVariants.{More, Done, Failed}
-use Rattle.rws_reply.specs.declared.kind.BadReply.{BadReply}
+use Rattle.rws_reply.specs.declared.kind.Progress.TheVariants.{More, Whole}
 use Rattle.rws_reply.specs.declared.awaits.Awaits.{Awaits}
-use Rattle.rws_reply.specs.Replies.{Payload, Outcome, Accepted, Refused, IsReply, Begins}
-use Rattle.rws_reply.specs.Machine.{Begun, run, first}
+use Rattle.rws_reply.specs.Replies.{Payload}
+use Rattle.rws_reply.specs.Machine.{Standing, Ended, Waits, Stuck, run, first}
 
--- What a tracker has taken: it is one for this kind, these payloads came, and they begin a reply. A caller gets it from
--- `new` and `step`, and need not look inside.
-abbrev pub Tracks : Option Awaits → Kind → List Payload → Type 0
-Tracks (Some awaits) kind payloads = run payloads (first kind) ≡ Begun awaits
-Tracks None kind payloads = ⊥
+abbrev pub progress_of : Standing → Option Progress
+progress_of (Waits awaits) = Some More
+progress_of (Ended out) = Some (Whole out)
+progress_of Stuck = None
 
--- a tracker whose reply is whole or bad
-abbrev pub IsOver : Option Awaits → Type 0
-IsOver tracker = tracker ≡ None
+-- how far a reply of this kind has come with this payload behind these; None where they begin no reply
+unfoldable pub progress : Kind → List Payload → Payload → Option Progress
+progress kind payloads payload = progress_of (run (payloads ++ payload ∷ []) (first kind))
 
--- what an answer of the tracker says of the payloads
-abbrev pub Judges : Kind → List Payload → Result Progress BadReply → Type 0
-Judges kind payloads (Ok More) = Begins kind payloads × ((out : Outcome) → ¬ IsReply kind payloads out)
-Judges kind payloads (Ok (Done status)) = IsReply kind payloads (Accepted status) × ¬ Begins kind payloads
-Judges kind payloads (Ok (Failed code)) = IsReply kind payloads (Refused code) × ¬ Begins kind payloads
-Judges kind payloads (Err _) = ¬ Begins kind payloads × ((out : Outcome) → ¬ IsReply kind payloads out)
+-- what a tracker is to those who hold one; they need not look inside
+abbrev pub Tracked : Type 0
+Tracked = Option Awaits
+
+abbrev pub waiting : Standing → Tracked
+waiting (Waits awaits) = Some awaits
+waiting (Ended out) = None
+waiting Stuck = None
+
+-- a tracker for a reply of this kind that has taken these payloads
+unfoldable pub tracked : Kind → List Payload → Tracked
+tracked kind payloads = waiting (run payloads (first kind))

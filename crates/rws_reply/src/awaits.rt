@@ -1,9 +1,11 @@
-// What may come next in a reply.
+//! What may come next in a reply: one small function for each place, each proved to be the definition's step there.
 
 ghost use Rattle.std.specs.Prelude.{◌≡◌};
-ghost use Rattle.rws_reply.specs.Machine.{after_result, next, to_columns, to_parameters};
+ghost use Rattle.rws_reply.specs.declared.kind.Outcome.TheVariants.{Done, Failed};
+ghost use Rattle.rws_reply.specs.declared.awaits.Step.TheVariants.{Ends};
+ghost use Rattle.rws_reply.specs.Machine.{behind_result, next, to_columns, to_parameters};
 
-use crate::payload;
+use crate::{Outcome, payload};
 use rws_msgs::status::AUTOCOMMIT;
 use rws_msgs::{err_code, ok_status};
 
@@ -34,21 +36,35 @@ pub enum Awaits {
 pub enum Step {
     // The reply goes on, and this may come next.
     Goes(Awaits),
-    // The reply is whole, with the status of its last OK or EOF.
-    Done(u16),
-    // The reply is whole, with the code of its ERR.
-    Failed(u16),
+    // The reply is whole and ended so.
+    Ends(Outcome),
     // The payload can't stand here.
     Wrong,
 }
 
+impl Step {
+    // The reply is whole, with the status of its last OK or EOF.
+    fn done(status: u16) -> Step
+        ensures { result ≡ Ends (Done status) }
+    {
+        Step::Ends(Outcome::Done { status })
+    }
+
+    // The reply is whole, with the code of its ERR.
+    fn failed(code: u16) -> Step
+        ensures { result ≡ Ends (Failed code) }
+    {
+        Step::Ends(Outcome::Failed { code })
+    }
+}
+
 fn result_end(status: u16) -> Step
-    ensures { result ≡ after_result status }
+    ensures { result ≡ behind_result status }
 {
     if payload::has_more(status) {
         Step::Goes(Awaits::Query)
     } else {
-        Step::Done(status)
+        Step::done(status)
     }
 }
 
@@ -56,7 +72,7 @@ fn columns_next(columns: u16, status: u16) -> Step
     ensures { result ≡ to_columns columns status }
 {
     if columns == 0 {
-        Step::Done(status)
+        Step::done(status)
     } else {
         Step::Goes(Awaits::Columns(columns))
     }
@@ -79,9 +95,9 @@ fn simple(payload: &[u8]) -> Step
     ensures { result ≡ next Awaits.Simple payload.now }
 {
     if let Some(status) = ok_status(payload, true) {
-        Step::Done(status)
+        Step::done(status)
     } else if let Some(code) = err_code(payload) {
-        Step::Failed(code)
+        Step::failed(code)
     } else {
         Step::Wrong
     }
@@ -93,7 +109,7 @@ fn query(payload: &[u8]) -> Step
     if let Some(status) = ok_status(payload, true) {
         result_end(status)
     } else if let Some(code) = err_code(payload) {
-        Step::Failed(code)
+        Step::failed(code)
     } else if let Some(count) = payload::columns(payload) {
         Step::Goes(Awaits::Definitions(count))
     } else {
@@ -122,7 +138,7 @@ fn rows(payload: &[u8]) -> Step
     if let Some(status) = payload::eof(payload) {
         result_end(status)
     } else if let Some(code) = err_code(payload) {
-        Step::Failed(code)
+        Step::failed(code)
     } else if payload::row(payload) {
         Step::Goes(Awaits::Rows)
     } else {
@@ -134,7 +150,7 @@ fn prepare(payload: &[u8]) -> Step
     ensures { result ≡ next Awaits.Prepare payload.now }
 {
     if let Some(code) = err_code(payload) {
-        Step::Failed(code)
+        Step::failed(code)
     } else if let Some((columns, parameters)) = payload::prepared(payload) {
         parameters_next(columns, parameters)
     } else {
@@ -165,7 +181,7 @@ fn columns(left: u16, payload: &[u8]) -> Step
 {
     if left == 0 {
         match payload::eof(payload) {
-            Some(status) => Step::Done(status),
+            Some(status) => Step::done(status),
             None => Step::Wrong,
         }
     } else if payload::definition(payload) {
@@ -179,7 +195,7 @@ fn field_list(payload: &[u8]) -> Step
     ensures { result ≡ next Awaits.FieldList payload.now }
 {
     match err_code(payload) {
-        Some(code) => Step::Failed(code),
+        Some(code) => Step::failed(code),
         None => fields(payload),
     }
 }
@@ -188,7 +204,7 @@ fn fields(payload: &[u8]) -> Step
     ensures { result ≡ next Awaits.Fields payload.now }
 {
     if let Some(status) = payload::eof(payload) {
-        Step::Done(status)
+        Step::done(status)
     } else if payload::definition(payload) {
         Step::Goes(Awaits::Fields)
     } else {
@@ -197,7 +213,7 @@ fn fields(payload: &[u8]) -> Step
 }
 
 // What one more payload leads to.
-pub fn after(awaits: Awaits, payload: &[u8]) -> Step
+pub fn next(awaits: Awaits, payload: &[u8]) -> Step
     ensures { result ≡ next awaits payload.now }
 {
     match awaits {

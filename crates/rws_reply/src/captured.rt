@@ -1,7 +1,7 @@
-// Replies as MariaDB 10.11.19 sent them, payload by payload, to a client with CLIENT_PROTOCOL_41, CLIENT_SESSION_TRACK,
-// CLIENT_MULTI_RESULTS and CLIENT_PS_MULTI_RESULTS and without CLIENT_DEPRECATE_EOF.
+//! Replies as MariaDB 10.11.19 sent them, payload by payload, to a client with CLIENT_PROTOCOL_41, CLIENT_SESSION_TRACK,
+//! CLIENT_MULTI_RESULTS and CLIENT_PS_MULTI_RESULTS and without CLIENT_DEPRECATE_EOF.
 
-use crate::{BadReply, Kind, Progress, ReplyTracker};
+use crate::{BadReply, Kind, Outcome, Progress, ReplyTracker};
 
 // To `select id, v, a from t where ..`, whose last column is NULL.
 const ROWS: &[&[u8]] = &[
@@ -106,28 +106,28 @@ const FIELDS: &[&[u8]] = &[
 // To COM_FIELD_LIST of a table that isn't there.
 const NO_FIELDS: &[&[u8]] = &[b"\xffz\x04#42S02Table 'test.nosuch' doesn't exist"];
 
-const REPLIES: [(Kind, &[&[u8]], Progress); 12] = [
-    (Kind::Query, ROWS, Progress::Done { status: 0x0022 }),
-    (Kind::Query, CALL, Progress::Done { status: 0x0002 }),
-    (Kind::Query, RETURNING, Progress::Done { status: 0x4002 }),
-    (Kind::Query, UPDATED, Progress::Done { status: 0x0002 }),
-    (Kind::Query, DELETED, Progress::Done { status: 0x4002 }),
-    (Kind::Query, CUT, Progress::Failed { code: 1644 }),
-    (Kind::Query, CALL_REFUSED, Progress::Failed { code: 1644 }),
-    (Kind::Prepare, PREPARED, Progress::Done { status: 0x0002 }),
-    (Kind::Query, EXECUTED, Progress::Done { status: 0x0002 }),
-    (Kind::Query, CALL_OUT, Progress::Done { status: 0x0002 }),
-    (Kind::FieldList, FIELDS, Progress::Done { status: 0x0002 }),
-    (Kind::FieldList, NO_FIELDS, Progress::Failed { code: 1146 }),
+const REPLIES: [(Kind, &[&[u8]], Outcome); 12] = [
+    (Kind::Query, ROWS, Outcome::Done { status: 0x0022 }),
+    (Kind::Query, CALL, Outcome::Done { status: 0x0002 }),
+    (Kind::Query, RETURNING, Outcome::Done { status: 0x4002 }),
+    (Kind::Query, UPDATED, Outcome::Done { status: 0x0002 }),
+    (Kind::Query, DELETED, Outcome::Done { status: 0x4002 }),
+    (Kind::Query, CUT, Outcome::Failed { code: 1644 }),
+    (Kind::Query, CALL_REFUSED, Outcome::Failed { code: 1644 }),
+    (Kind::Prepare, PREPARED, Outcome::Done { status: 0x0002 }),
+    (Kind::Query, EXECUTED, Outcome::Done { status: 0x0002 }),
+    (Kind::Query, CALL_OUT, Outcome::Done { status: 0x0002 }),
+    (Kind::FieldList, FIELDS, Outcome::Done { status: 0x0002 }),
+    (Kind::FieldList, NO_FIELDS, Outcome::Failed { code: 1146 }),
 ];
 
-// How many payloads the reply takes, and what is said of the last.
-fn taken(kind: Kind, payloads: &[&[u8]]) -> Option<(usize, Progress)> {
+// How many payloads the reply takes, and how it ends.
+fn taken(kind: Kind, payloads: &[&[u8]]) -> Option<(usize, Outcome)> {
     let mut tracker = ReplyTracker::new(kind);
     for (i, payload) in payloads.iter().enumerate() {
         match tracker.step(payload) {
             Ok(Progress::More) => {}
-            Ok(last) => return Some((i + 1, last)),
+            Ok(Progress::Whole(outcome)) => return Some((i + 1, outcome)),
             Err(BadReply) => return None,
         }
     }
@@ -136,10 +136,10 @@ fn taken(kind: Kind, payloads: &[&[u8]]) -> Option<(usize, Progress)> {
 
 #[test]
 fn replies_end_where_servers_end_them(rt: HostRuntime) {
-    for (kind, payloads, last) in REPLIES {
+    for (kind, payloads, outcome) in REPLIES {
         assert_eq!(rt;
             taken(kind, payloads),
-            Some((payloads.len(), last)),
+            Some((payloads.len(), outcome)),
             "{kind:?}"
         );
     }

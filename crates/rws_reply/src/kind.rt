@@ -1,4 +1,4 @@
-// The kinds of reply, and what is said of one.
+//! The kinds of reply, and what is said of one.
 
 /// What a command is answered by.
 #[derive(Clone, Copy, Debug, PartialEq, Eq)]
@@ -13,16 +13,23 @@ pub enum Kind {
     FieldList,
 }
 
+/// How a whole reply ended.
+#[derive(Clone, Copy, Debug, PartialEq, Eq)]
+pub enum Outcome {
+    /// Without an error. `status` is that of its last OK or EOF, and 0x0002, autocommit alone, for a prepared statement
+    /// without parameters and columns.
+    Done { status: u16 },
+    /// By an ERR with this code.
+    Failed { code: u16 },
+}
+
 /// How far a reply has come.
 #[derive(Clone, Copy, Debug, PartialEq, Eq)]
 pub enum Progress {
     /// It goes on.
     More,
-    /// It is whole and ended without an error. `status` is that of its last OK or EOF, and 0x0002, autocommit alone,
-    /// for a prepared statement without parameters and columns.
-    Done { status: u16 },
-    /// It is whole and ended by an ERR with this code.
-    Failed { code: u16 },
+    /// It is whole and ended so.
+    Whole(Outcome),
 }
 
 /// The payloads so far begin no reply of the kind, or the reply was whole already.

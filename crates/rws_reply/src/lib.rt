@@ -7,10 +7,12 @@ mod awaits;
 #[cfg(test)]
 mod captured;
 mod kind;
+mod law;
 mod payload;
 #[cfg(test)]
 mod tests;
 mod tracker;
 
-pub use kind::{BadReply, Kind, Progress};
+pub use kind::{BadReply, Kind, Outcome, Progress};
+pub use law::{progress_is_exact, replies_end_once};
 pub use tracker::ReplyTracker;

@@ -1,4 +1,4 @@
-// What a payload of a reply is, by its bytes.
+//! What a payload may be by its bytes alone; what it is depends on its place in the reply.
 
 ghost use Rattle.std.specs.Prelude.{◌≡◌, is_ok};
 ghost use Rattle.rws_reply.specs.Payloads.{has_more_results, eof_status, column_count, is_definition, is_row, prepared_counts};

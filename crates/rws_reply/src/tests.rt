@@ -1,6 +1,6 @@
-// Replies as servers send them.
+//! Replies as servers send them, and what is none.
 
-use crate::{BadReply, Kind, Progress, ReplyTracker};
+use crate::{BadReply, Kind, Outcome, Progress, ReplyTracker};
 use std::test::Fail;
 
 const OK: &[u8] = b"\x00\x00\x00\x02\x00\x00\x00";
@@ -40,12 +40,12 @@ fn last_of(kind: Kind, payloads: &[&[u8]]) -> Result<Progress, BadReply> {
 
 #[test]
 fn whole_replies(rt: HostRuntime) -> Result<(), Fail> {
-    let done = Ok(Progress::Done { status: 2 });
-    let failed = Ok(Progress::Failed { code: 1105 });
+    let done = Ok(Progress::Whole(Outcome::Done { status: 2 }));
+    let failed = Ok(Progress::Whole(Outcome::Failed { code: 1105 }));
     assert_eq!(rt; last_of(Kind::Simple, &[OK]), done);
     assert_eq!(rt;
         last_of(Kind::Query, &[OK_GTID]),
-        Ok(Progress::Done { status: 0x4002 })
+        Ok(Progress::Whole(Outcome::Done { status: 0x4002 }))
     );
     assert_eq!(rt;
         last_of(Kind::Query, &[ONE, DEFINITION, EOF, ROW, LONG_ROW, EOF]),

@@ -1,15 +1,16 @@
-// Follows one reply from its first payload to its last.
+//! Follows one reply from its first payload to its last.
 
-ghost use Rattle.std.specs.Prelude.{◌≡◌, ◌≢◌, List, [], ◌∷◌, ◌++◌, Ok, IsErr};
+ghost use Rattle.std.specs.Prelude.{◌≡◌, List, [], ◌∷◌, ◌++◌};
+ghost use Rattle.std.specs.Result.{result_ok};
 
-use crate::awaits::{Awaits, Step, after};
+use crate::awaits::{Awaits, Step, next};
 use crate::{BadReply, Kind, Progress};
 use std::marker::Model;
 
 /// Tells after each payload whether the reply goes on, is whole, or can't be one. It takes no memory.
 ///
 /// The reply comes on a link with `CLIENT_PROTOCOL_41` and `CLIENT_SESSION_TRACK` and without `CLIENT_DEPRECATE_EOF`.
-/// After `Done`, `Failed` or `BadReply` every further payload is `BadReply`: a new reply begins with a new tracker.
+/// After `Whole` or `BadReply` every further payload is `BadReply`: a new reply begins with a new tracker.
 #[derive(Drop)]
 pub struct ReplyTracker {
     // None where the reply is whole or bad.
@@ -27,13 +28,13 @@ impl Model for ReplyTracker {
 
 impl ReplyTracker {
     ghost use Rattle.rws_reply.specs.declared.kind.Kind.{Kind};
-    ghost use Rattle.rws_reply.specs.declared.kind.Progress.TheVariants.{More};
     ghost use Rattle.rws_reply.specs.Replies.{Payload};
-    ghost use Rattle.rws_reply.specs.Tracking.{Tracks, IsOver, Judges};
+    ghost use Rattle.rws_reply.specs.Tracking.{tracked, progress};
 
     /// A tracker for a reply of this kind, before its first payload.
+    #[tactic(auto, unfolding(crate::specs::Tracking::tracked))]
     pub fn new(kind: Kind) -> ReplyTracker
-        ensures { Tracks result kind [] }
+        ensures { result ≡ tracked kind [] }
     {
         let awaits = match kind {
             Kind::Simple => Awaits::Simple,
@@ -48,25 +49,21 @@ impl ReplyTracker {
 
     /// Takes the next payload of the reply. Behind the last it answers `BadReply`.
     pub fn step(&mut self, payload: &[u8]) -> Result<Progress, BadReply>
-        // Whatever payloads came before: the answer is true of all that came so far.
-        ensures judged { (kind : Kind) (sofar : List Payload) → Tracks self.old kind sofar
-            → Judges kind (sofar ++ payload.now ∷ []) result }
-        ensures goes_on { (kind : Kind) (sofar : List Payload) → Tracks self.old kind sofar → result ≡ Ok More
-            → Tracks self.new kind (sofar ++ payload.now ∷ []) }
-        // A reply that is whole or bad has no further payload.
-        ensures ends { result ≢ Ok More → IsOver self.new }
-        ensures over { IsOver self.old → IsErr result }
+        // Whatever payloads came before.
+        ensures tracks { (kind : Kind) (payloads : List Payload) → self.old ≡ tracked kind payloads
+            → self.new ≡ tracked kind (payloads ++ payload.now ∷ []) }
+        ensures tells { (kind : Kind) (payloads : List Payload) → self.old ≡ tracked kind payloads
+            → result_ok result ≡ progress kind payloads payload.now }
     {
         let Some(awaited) = self.awaits.take() else {
             return Err(BadReply);
         };
-        match after(awaited, payload) {
+        match next(awaited, payload) {
             Step::Goes(awaits) => {
                 self.awaits = Some(awaits);
                 Ok(Progress::More)
             }
-            Step::Done(status) => Ok(Progress::Done { status }),
-            Step::Failed(code) => Ok(Progress::Failed { code }),
+            Step::Ends(outcome) => Ok(Progress::Whole(outcome)),
             Step::Wrong => Err(BadReply),
         }
     }
