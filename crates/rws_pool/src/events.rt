@@ -1,4 +1,4 @@
-// The calls of the sessions to the pool, the events that they are, and the entries of a history.
+//! The calls of the sessions to the pool, the events that they are, and the entries of a history.
 ghost use Rattle.std.specs.Prelude.{◌≡◌};
 ghost use Rattle.rws_pool.specs.History.{event_of};
 
@@ -19,15 +19,20 @@ pub enum PoolCall {
 /// An event of the pool: a call without its session.
 #[derive(Clone, Copy, Debug, PartialEq, Eq)]
 pub enum PoolEvent {
+    /// The words were asked for, which changes nothing.
     Route,
+    /// The server at this index made a commit.
     Record { server: u8, gtid: Gtid },
+    /// The monitor ended a round.
     Observe { round: Round },
 }
 
 /// One entry of a history: an event and the number of the pass that made it.
 #[derive(Clone, Copy, Debug, PartialEq, Eq)]
 pub struct Entry {
+    /// The number of the pass.
     pub pass: u64,
+    /// What it did.
     pub event: PoolEvent,
 }
 

@@ -1,4 +1,6 @@
 //! The pool table as a pure machine: what is known of each server, the last commit, and the events that change them.
+//!
+//! A history is one list of the events of all workers; the words after it are the fold of the three steps.
 #![tactic(auto)]
 
 mod events;

@@ -1,4 +1,4 @@
-// One list of events, and the words after it.
+//! One list of events, and the words after it.
 ghost use Rattle.std.specs.Prelude.{◌≡◌};
 
 use crate::{PoolCall, PoolEvent, PoolWords, Round, Seen, State};

@@ -1,4 +1,6 @@
-// The words of the pool and the three steps on them.
+//! The words of the pool and the three steps on them.
+//!
+//! No position falls and no last commit is replaced by one of a lower sequence, whatever step is taken.
 ghost use Rattle.std.specs.Prelude.{◌≡◌, ◌<◌, nat_lt, if◌then◌else◌};
 ghost use Rattle.rws_pool.specs.Machine.{new_words, later, raised, observed, recorded, each_observed, pool_step, CanStep};
 
@@ -8,16 +10,22 @@ use rws_gtid::Gtid;
 /// The role of a server, as the monitor sees it.
 #[derive(Clone, Copy, Debug, PartialEq, Eq)]
 pub enum State {
+    /// It doesn't answer.
     Down,
+    /// It answers, and is neither a replica that follows nor the primary.
     Running,
+    /// A replica that follows the primary.
     Slave,
+    /// The server that takes writes.
     Master,
+    /// Taken out by the operator.
     Maintenance,
 }
 
 /// What is known of one server.
 #[derive(Clone, Copy, Debug, PartialEq, Eq)]
 pub struct Seen {
+    /// Its role.
     pub state: State,
     /// The greatest sequence that the server is known to have, 0 where none is.
     pub position: u64,
@@ -26,6 +34,7 @@ pub struct Seen {
 /// What one round of the monitor found, by index. None is a server that the round leaves out.
 #[derive(Clone, Copy, Debug, PartialEq, Eq)]
 pub struct Round {
+    /// By index.
     pub seen: [Option<Seen>; 7],
 }
 
@@ -34,12 +43,12 @@ pub struct Round {
 pub struct PoolWords {
     /// The GTID of the greatest sequence that was recorded, `domain-0-0` where none was.
     pub last: Gtid,
-    /// By index.
+    /// What is known of the servers, by index.
     pub servers: [Seen; 7],
 }
 
 impl Seen {
-    // The same server once its position has reached this sequence.
+    /// The same server once its position has reached this sequence.
     fn raised(self, sequence: u64) -> Seen
         ensures { result ≡ raised self sequence }
     {
@@ -49,7 +58,7 @@ impl Seen {
         }
     }
 
-    // The same server after a round that may name it.
+    /// The same server after a round that may name it.
     fn observed(self, named: Option<Seen>) -> Seen
         ensures { result ≡ observed self named }
     {
@@ -119,7 +128,7 @@ impl PoolWords {
     }
 }
 
-// The GTID of the greater sequence, the first at a tie.
+/// The GTID of the greater sequence, the first at a tie.
 fn later(last: Gtid, gtid: Gtid) -> Gtid
     requires { gtid.domain ≡ last.domain }
     ensures step { result ≡ later last gtid }

@@ -9,7 +9,7 @@ use Rattle.rws_pool.specs.declared.words.Seen.{Seen}
 use Rattle.rws_pool.specs.declared.words.PoolWords.{PoolWords}
 use Rattle.rws_pool.specs.Machine.{down}
 use Rattle.rws_select.specs.declared.selector.Load.{Load}
-use Rattle.rws_select.specs.Choice.{HasNone, IsChoice}
+use Rattle.rws_select.specs.Choice.{HasNone, IsChoice, choice_of}
 use Rattle.rws_route.specs.declared.destination.Target.{Target}
 use Rattle.rws_route.specs.declared.destination.Target.TheVariants.{Primary, Replica, NoPrimary}
 
@@ -68,3 +68,15 @@ IsTarget class autocommit sent_back words loads tried banned target =
     MatchBool (may_leave_primary class autocommit sent_back)
     (IsReadTarget (candidates_of words.servers loads tried banned) (primary_target words.servers tried) target)
     (target ≡ primary_target words.servers tried)
+
+-- the row of the replicas as a function
+abbrev pub read_target : Option ℕ → Target → Target
+read_target None instead = instead
+read_target (Some place) instead = Replica place
+
+-- the same table as a function
+abbrev pub target_of : Class → Bool → Bool → PoolWords → List Load → ℕ → ℕ → Target
+target_of class autocommit sent_back words loads tried banned =
+    if may_leave_primary class autocommit sent_back
+    then read_target (choice_of (candidates_of words.servers loads tried banned)) (primary_target words.servers tried)
+    else primary_target words.servers tried

@@ -1,4 +1,4 @@
-// What the table of targets answers.
+//! What the table of targets answers.
 
 /// Where a command goes.
 #[derive(Clone, Copy, Debug, PartialEq, Eq)]

@@ -1,7 +1,7 @@
-// The table of targets, and the sets and candidates that it speaks of.
+//! The table of targets, and the sets and candidates that it speaks of.
 ghost use Rattle.std.specs.Prelude.{◌≡◌, ◌<◌, IfSome};
 ghost use Rattle.rws_select.specs.Choice.{HasScorer};
-ghost use Rattle.rws_route.specs.Targets.{is_in, is_master, may_leave_primary, candidate_at, candidates_of, primary_of, primary_target, IsTarget};
+ghost use Rattle.rws_route.specs.Targets.{is_in, is_master, may_leave_primary, candidate_at, candidates_of, primary_of, primary_target, IsTarget, target_of};
 
 use crate::destination::Target;
 use rws_class::Class;
@@ -24,7 +24,8 @@ pub fn target<F: Fn(&Load) -> u64 + Sync>(
     selector: &Selector<F>,
 ) -> Target
     requires { HasScorer F.Fn selector.now }
-    ensures { IsTarget class autocommit sent_back words.now loads.now tried banned result }
+    ensures table { IsTarget class autocommit sent_back words.now loads.now tried banned result }
+    ensures function { result ≡ target_of class autocommit sent_back words.now loads.now tried banned }
 {
     if !may_leave_primary(class, autocommit, sent_back) {
         return primary_target(&words.servers, tried);
@@ -35,14 +36,14 @@ pub fn target<F: Fn(&Load) -> u64 + Sync>(
     }
 }
 
-// A read with autocommit on that no causal wait sent back.
+/// A read with autocommit on that no causal wait sent back.
 fn may_leave_primary(class: Class, autocommit: bool, sent_back: bool) -> bool
     ensures { result ≡ may_leave_primary class autocommit sent_back }
 {
     matches!(class, Class::Read | Class::BeginReadOnly) && autocommit && !sent_back
 }
 
-// The primary, unless it was tried.
+/// The primary, unless it was tried.
 fn primary_target(servers: &[Seen; 7], tried: u8) -> Target
     ensures { result ≡ primary_target servers.now tried }
 {
@@ -57,7 +58,7 @@ fn primary_target(servers: &[Seen; 7], tried: u8) -> Target
     }
 }
 
-// The server of lowest index whose state is Master.
+/// The server of lowest index whose state is Master.
 fn primary(servers: &[Seen; 7]) -> Option<usize>
     ensures place { result ≡ primary_of servers.now }
     ensures within { IfSome result (λ place. place < 7) }
@@ -65,13 +66,14 @@ fn primary(servers: &[Seen; 7]) -> Option<usize>
     servers.iter().position(|seen| is_master(seen.state))
 }
 
+/// Whether a server of this state may be the primary.
 fn is_master(state: State) -> bool
     ensures { result ≡ is_master state }
 {
     matches!(state, State::Master)
 }
 
-// The loads of the replicas that may be taken.
+/// The loads of the replicas that may be taken.
 fn candidates(servers: &[Seen; 7], loads: &[Load; 7], tried: u8, banned: u8) -> [Option<Load>; 7]
     ensures { result ≡ candidates_of servers.now loads.now tried banned }
 {
@@ -82,7 +84,7 @@ fn candidates(servers: &[Seen; 7], loads: &[Load; 7], tried: u8, banned: u8) -> 
     candidates
 }
 
-// The load of a server, where it is a replica that may be taken.
+/// The load of a server, where it is a replica that may be taken.
 fn candidate(
     servers: &[Seen; 7],
     loads: &[Load; 7],
@@ -102,6 +104,7 @@ fn candidate(
     }
 }
 
+/// Whether the server at this place is in the set: bit k stands for server k.
 fn is_in(set: u8, place: u8) -> bool
     requires { place < 7 }
     ensures { result ≡ is_in set place }

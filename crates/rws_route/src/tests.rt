@@ -1,4 +1,4 @@
-// Rows of the table of targets.
+//! Rows of the table of targets.
 ghost use Rattle.rws_select.specs.Choice.{HasScorer};
 
 use crate::{Target, target};

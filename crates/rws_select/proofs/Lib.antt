@@ -1,1 +1,4 @@
+-- the best of the servers seen so far
 mod Choices
+-- the choice is one
+mod OneChoice

@@ -1,5 +1,6 @@
 -- What a selector chooses: of the replicas that may be taken, the one of least score, and of those the one of lowest index.
-use Rattle.std.specs.Prelude.{◌≡◌, ℕ, ◌+◌, ◌*◌, ◌<◌, ◌≤◌, List, Option, Some, slice_get}
+use Rattle.std.specs.Prelude.{◌≡◌, ℕ, ◌+◌, ◌*◌, ◌<◌, ◌≤◌, nat_le, Bool, true, false, List, Option, Some, None, slice_get, position}
+use Rattle.std.specs.List.{list_all}
 use Rattle.std.specs.Fn.{Shared}
 use denote.Ref.{Bor}
 use Rattle.rws_select.specs.declared.selector.Load.{Load}
@@ -31,3 +32,17 @@ pub record IsChoice (candidates : List (Option Load)) (place : ℕ) : Type 0 whe
   pub present : IsCandidate candidates place load
   pub least : (other : ℕ) (its : Load) → IsCandidate candidates other its → score_of load ≤ score_of its
   pub lowest : (other : ℕ) (its : Load) → other < place → IsCandidate candidates other its → score_of load < score_of its
+
+-- the server is no candidate, or has at least this score
+abbrev pub is_not_below : ℕ → Option Load → Bool
+is_not_below score None = true
+is_not_below score (Some load) = nat_le score (score_of load)
+
+-- the server is a candidate, and no candidate has a lower score
+abbrev pub is_least : List (Option Load) → Option Load → Bool
+is_least candidates None = false
+is_least candidates (Some load) = list_all (is_not_below (score_of load)) candidates
+
+-- the same choice as a function: the lowest index of a candidate that has the least score
+abbrev pub choice_of : List (Option Load) → Option ℕ
+choice_of candidates = position (is_least candidates) candidates

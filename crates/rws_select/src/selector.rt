@@ -1,7 +1,9 @@
-// The stored scoring function and the choice that rests on it.
+//! The stored scoring function, and the choice that rests on it.
+//!
+//! A `Selector` is made by `Selector::new` alone, whose condition says what its function answers.
 ghost use Rattle.std.specs.Prelude.{◌≡◌, List, Option, [], ◌∷◌, ◌++◌, length, MatchOption};
 ghost use Rattle.rws_select.specs.declared.selector.Load.{Load};
-ghost use Rattle.rws_select.specs.Choice.{IsScorer, HasScorer, HasNone, IsChoice};
+ghost use Rattle.rws_select.specs.Choice.{IsScorer, HasScorer, HasNone, IsChoice, choice_of};
 ghost use Rattle.rws_select.specs.Scored.{IsBest};
 
 /// What a worker has open to one server.
@@ -16,13 +18,16 @@ pub struct Load {
 /// A scoring function that callers have shown to answer `pending * 65536 + links` for every load.
 #[derive(Drop)]
 pub struct Selector<F> {
+    /// The scoring function.
     score: F,
 }
 
-// A candidate with its score.
+/// A candidate with its score.
 #[derive(Clone, Copy)]
 struct Scored {
+    /// The server's index.
     place: u8,
+    /// What the scoring function answered for its load.
     score: u64,
 }
 
@@ -39,17 +44,18 @@ impl<F: Fn(&Load) -> u64 + Sync> Selector<F> {
     /// candidate.
     pub fn choose(&self, candidates: &[Option<Load>; 7]) -> Option<u8>
         requires { HasScorer F.Fn self.now }
-        ensures { MatchOption result (HasNone candidates.now) (λ place. IsChoice candidates.now place) }
+        ensures choice { MatchOption result (HasNone candidates.now) (λ place. IsChoice candidates.now place) }
+        ensures function { result ≡ choice_of candidates.now }
     {
         let mut best = None;
         for place in 0..7 {
             let next = candidates[usize::from(place)];
             best = self.better(best, place, next);
         }
-        best.map(|scored| scored.place)
+        Some(best?.place)
     }
 
-    // The one of least score so far, or the next server, where that is a candidate with a lower score.
+    /// The one of least score so far, or the next server, where that is a candidate with a lower score.
     fn better(&self, best: Option<Scored>, place: u8, next: Option<Load>) -> Option<Scored>
         requires { HasScorer F.Fn self.now }
         ensures { (seen : List (Option Load)) → length seen ≡ place → IsBest seen best → IsBest (seen ++ next ∷ []) result }

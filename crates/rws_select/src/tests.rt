@@ -1,4 +1,4 @@
-// The worked choices: the lower score, the lowest index at a tie, nobody.
+//! The worked choices: the lower score, the lowest index at a tie, nobody.
 use crate::{Load, Selector};
 use std::test::Fail;
 

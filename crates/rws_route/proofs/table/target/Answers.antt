@@ -7,12 +7,12 @@ use Rattle.rws_route.specs.Targets.{candidates_of, primary_of, primary_target, I
 use Rattle.rws_route.proofs.Falling.{falls_back}
 use Rattle.rws_route.proofs.table.target.Goals as goal
 
-pub returns-in-None : goal.returns-in-None
-returns-in-None g c =
+pub returns-in-None-clause-table : goal.returns-in-None-clause-table
+returns-in-None-clause-table g c =
     let servers = c.args.words.now.servers in
     let wanted = primary_target c.args.words.now.servers c.args.tried in
     let candidates = candidates_of c.args.words.now.servers c.args.loads.now c.args.tried c.args.banned in
-    let chosen = subst (λ (o : Option ℕ). MatchOption o (HasNone c.candidates.result) (λ place. IsChoice c.candidates.result place)) c.in-None.is c.choose.ensures in
+    let chosen = subst (λ (o : Option ℕ). MatchOption o (HasNone c.candidates.result) (λ place. IsChoice c.candidates.result place)) c.in-None.is c.choose.ensures.choice in
     let none = subst (λ (cs : List (Option Load)). HasNone cs) c.candidates.ensures chosen in
     let falls = falls_back candidates c.args.tried (primary_of servers) none in
     let may : may_leave_primary c.args.class c.args.autocommit c.args.sent_back ≡ true = sym c.may_leave_primary.ensures ∙ c.if-not-may_leave_primary.false in

@@ -1,0 +1,47 @@
+//! A worked session, reply by reply, and what it may send again.
+
+use crate::{Open, TrxState};
+use rws_class::Class;
+use std::test::Fail;
+
+/// Each command, the status of its reply, None where that is an error, then what is open and whether it is tainted.
+const SESSION: [(Class, Option<u16>, Open, bool); 12] = [
+    (Class::Begin, Some(0x0003), Open::ReadWrite, false),
+    (Class::Read, Some(0x0023), Open::ReadWrite, false),
+    (Class::Write, None, Open::ReadWrite, true),
+    (Class::Commit, Some(0x0002), Open::Nothing, false),
+    (Class::Write, None, Open::Nothing, false),
+    (Class::BeginReadOnly, Some(0x0003), Open::ReadOnly, false),
+    (Class::Begin, Some(0x0003), Open::ReadWrite, false),
+    (Class::Read, None, Open::ReadWrite, true),
+    (Class::Begin, Some(0x0003), Open::ReadWrite, false),
+    (Class::AutocommitOff, Some(0x0001), Open::ReadWrite, false),
+    (Class::Rollback, Some(0x0000), Open::Nothing, false),
+    (Class::BeginReadOnly, Some(0x0001), Open::ReadWrite, false),
+];
+
+#[test]
+fn a_session_reply_by_reply(rt: HostRuntime) -> Result<(), Fail> {
+    let mut state = TrxState::new();
+    for (class, status, opened, tainted) in SESSION {
+        match status {
+            Some(status) => state.after_done(class, status),
+            None => state.after_error(),
+        }
+        assert!(rt;
+            state.opened == opened && state.tainted == tainted,
+            "{class:?}"
+        );
+    }
+    assert!(rt; !state.autocommit);
+    Ok(())
+}
+
+#[test]
+fn a_lost_commit_is_not_sent_again(rt: HostRuntime) -> Result<(), Fail> {
+    let mut state = TrxState::new();
+    assert!(rt; state.sends_again(Class::Commit) && !state.sends_again(Class::Write));
+    state.after_done(Class::Begin, 0x0003);
+    assert!(rt; !state.sends_again(Class::Commit) && state.sends_again(Class::Write));
+    Ok(())
+}
