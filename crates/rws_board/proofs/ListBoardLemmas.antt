@@ -1,8 +1,8 @@
 -- What a board in memory did in one call.
-use Rattle.std.proofs.Common.{◌≡◌, ◌≢◌, ℕ, ◌↔◌, List, [], ◌∷◌, ◌++◌, ◌⊎◌, inl, inr, Option, Some, None, Result, Ok, Err, MatchResult, Contains, IsErrOf, refl, sym, ◌∙◌, ap, subst, append-nil}
-use Rattle.std.specs.Result.{IsErr, IsErrAnd}
-use Rattle.rws_board.specs.Boards.{ListBoardState, ListDid, IsOver, given, standing_after}
-use Rattle.rws_board.specs.Boards.Standing.{Ended, Failing}
+use Rattle.std.proofs.Common.{◌≡◌, ◌≢◌, ◌↔◌, [], ◌∷◌, ◌++◌, inl, inr, Result, Ok, Err, MatchResult, IsErrOf, refl, sym, ◌∙◌, ap, subst, append-nil}
+use Rattle.std.specs.Result.{IsErrAnd}
+use Rattle.rws_board.specs.Boards.{ListBoardState, ListDid, given, standing_after}
+use Rattle.rws_board.specs.Boards.Standing.{Failing}
 use Rattle.rws_board.specs.declared.action.Action.{Action}
 use Rattle.rws_board.specs.declared.board_fault.BoardFault.{BoardFault}
 use Rattle.rws_board.specs.declared.event.Event.{Event}

@@ -1,5 +1,6 @@
 //! What no contract says: that calls succeed with ample memory.
 use super::*;
+use rws_wire::DropCause;
 use std::test::Fail;
 
 #[test]
@@ -20,4 +21,18 @@ fn a_full_writer_is_a_fault(rt: HostRuntime) {
     let mut sink = WriteSink::new(bytes.as_mut_slice());
     assert_eq!(rt; sink.put(b"ab"), Ok(()));
     assert_eq!(rt; sink.put(b"cd"), Err(Failed));
+}
+
+#[test]
+fn a_board_in_memory_remembers_what_it_did(rt: HostRuntime) -> Result<(), Fail> {
+    let alloc = rt.alloc();
+    let mut events = EventList::new(alloc);
+    events.push(Event::LinkGone { link: 1 })?;
+    let mut board = ListBoard::new(alloc, events, CallList::from_slice(alloc, &[2])?)?;
+    assert_eq!(rt; board.next(0), Ok(Event::LinkGone { link: 1 }));
+    let cause = DropCause::End;
+    assert_eq!(rt; board.act(Action::Drop { link: 1, cause }), Ok(()));
+    assert_eq!(rt; board.next(0), Err(BoardFault::Failed));
+    assert_eq!(rt; board.interactions().len(), 2);
+    Ok(())
 }

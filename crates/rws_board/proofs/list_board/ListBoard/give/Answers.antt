@@ -1,7 +1,7 @@
-use Rattle.std.proofs.Common.{rules, ◌≡◌, sym}
+use Rattle.std.proofs.Common.{rules}
 use Rattle.rws_board.specs.Boards.{ListBoardState}
 use Rattle.rws_board.specs.declared.board_fault.BoardFault.TheVariants.{Failed, OutOfMemory}
-use Rattle.rws_board.proofs.ListBoardLemmas.{at_err, planned_failure, not_given, gave}
+use Rattle.rws_board.proofs.ListBoardLemmas.{at_err, planned_failure, not_given}
 use Rattle.rws_board.proofs.list_board.ListBoard.give.Goals as goal
 
 pub returns-in_err-call-clause-planned : goal.returns-in_err-call-clause-planned

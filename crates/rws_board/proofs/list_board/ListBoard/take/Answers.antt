@@ -1,4 +1,4 @@
-use Rattle.std.proofs.Common.{rules, ◌≡◌, sym}
+use Rattle.std.proofs.Common.{rules}
 use Rattle.rws_board.specs.Boards.{ListBoardState}
 use Rattle.rws_board.specs.declared.board_fault.BoardFault.TheVariants.{Failed, OutOfMemory}
 use Rattle.rws_board.proofs.ListBoardLemmas.{at_err, planned_failure, not_taken}
