@@ -1,7 +1,5 @@
-pub mod AheadLemmas
-pub mod Computed
-pub mod Feeds
+-- Lists and their parts.
 pub mod Fronts
-pub mod Numbers
-pub mod Passing
-pub mod Splits
+-- Boards.
+pub mod JoinLemmas
+pub mod ListBoardLemmas

@@ -1,11 +1,5 @@
-pub mod Counting
-pub mod EventLine
+pub mod Boards
 pub mod Faults
-pub mod Gathering
 pub mod InMemory
-pub mod Lines
-pub mod Printing
 pub mod Put
-pub mod Reading
-pub mod Script
 pub mod Streams

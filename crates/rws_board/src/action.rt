@@ -1,4 +1,4 @@
-// What a worker wants done.
+//! What a worker wants done.
 
 use rws_wire::{CloseReason, DropCause, Text};
 

@@ -1,4 +1,4 @@
-// The calls that an object in memory is to fail.
+//! The calls that an object in memory is to fail.
 ghost use Rattle.std.specs.Prelude.{◌≡◌, ◌↔◌, List, ℕ, Contains, IfOk, IsTrue};
 
 use std::alloc::{AllocError, Global};

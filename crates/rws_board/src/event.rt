@@ -1,9 +1,9 @@
-// What a worker is told.
+//! What a worker is told.
 
 use rws_wire::Text;
 
 /// What happened outside a worker.
-#[derive(Debug, Drop, PartialEq, Eq)]
+#[derive(Clone, Debug, Drop, PartialEq, Eq)]
 pub enum Event {
     /// A session begins in the command phase, with a ready link to this server of the settings.
     Begin { session: u32, server: u8 },

@@ -1,4 +1,4 @@
-// A sink in memory.
+//! A sink in memory.
 ghost use Rattle.std.specs.Prelude.{◌≡◌, ◌+◌, ◌≤◌, ◌<◌, ◌↔◌, ◌⊎◌, ℕ, List, Some, [], Contains, IfOk, IsErr, OnOk, OnErr, length};
 ghost use Rattle.rws_board.specs.Faults.{Rises, one_more};
 ghost use Rattle.rws_board.specs.Put.{PutAppends};
@@ -56,7 +56,7 @@ impl Sink for MemSink {
     /// A piece for which there is no room is refused whole.
     fn put(&mut self, piece: &[u8]) -> Result<(), Failed>
         ensures bytes { PutAppends (Some self.old.taken) (Some self.new.taken) result piece.now }
-        ensures kept { self.old.faults ≤ self.new.faults }
+        ensures counts { self.old.faults ≤ self.new.faults }
         ensures failed { OnErr result (Rises self.old.faults self.new.faults) }
         ensures refused { IsErr result ↔ (Contains self.old.fails self.old.calls
             ⊎ self.old.room < length self.old.taken + length piece.now) }

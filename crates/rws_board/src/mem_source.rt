@@ -1,4 +1,4 @@
-// A source in memory.
+//! A source in memory.
 ghost use Rattle.std.specs.Prelude.{◌≡◌, ◌≤◌, ◌↔◌, ℕ, List, Some, [], Contains, IfOk, IsErr, OnOk, OnErr, length, drop, min};
 ghost use Rattle.std.specs.Io.KnownBytes.{ReadConsumes};
 ghost use Rattle.rws_board.specs.Faults.{Rises, one_more};
@@ -49,7 +49,7 @@ impl Source for MemSource {
     fn read(&mut self, buffer: &mut [u8]) -> Result<usize, Failed>
         ensures within { IfOk result (λ count. count ≤ length buffer.new) }
         ensures bytes { ReadConsumes (Some self.old.left) (Some self.new.left) result buffer.new }
-        ensures kept { self.old.faults ≤ self.new.faults }
+        ensures counts { self.old.faults ≤ self.new.faults }
         ensures failed { OnErr result (Rises self.old.faults self.new.faults) }
         ensures planned { IsErr result ↔ Contains self.old.fails self.old.calls }
         ensures count { IfOk result (λ count. count ≡ min (length buffer.old) (length self.old.left)) }

@@ -1,4 +1,4 @@
-// The faults of an object in memory: those that were planned, and those of its own.
+//! The faults of an object in memory: those that were planned, and those of its own.
 ghost use Rattle.std.specs.Prelude.{◌≡◌, ◌≤◌, ◌↔◌, Contains, IsErr, OnOk, OnErr};
 ghost use Rattle.rws_board.specs.Faults.{one_more};
 
@@ -30,7 +30,7 @@ impl PlannedFaults {
         ensures calls { self.new.calls ≡ one_more self.old.calls }
         ensures ok { OnOk result (self.new.faults ≡ self.old.faults) }
         ensures err { OnErr result (self.new.faults ≡ one_more self.old.faults) }
-        ensures kept { self.old.faults ≤ self.new.faults }
+        ensures counts { self.old.faults ≤ self.new.faults }
     {
         let call = self.calls;
         self.calls = call.saturating_add(1);
@@ -43,7 +43,7 @@ impl PlannedFaults {
     /// Counts a fault.
     pub fn fail(&mut self) -> Failed
         ensures counted { self.new ≡ record self.old { faults = one_more self.old.faults } }
-        ensures kept { self.old.faults ≤ self.new.faults }
+        ensures counts { self.old.faults ≤ self.new.faults }
     {
         self.faults = self.faults.saturating_add(1);
         Failed

@@ -1,4 +1,4 @@
-// A source over a reader.
+//! A source over a reader.
 ghost use Rattle.std.specs.Prelude.{◌≡◌};
 
 use crate::{Failed, Source};

@@ -1,4 +1,4 @@
-// Where bytes go.
+//! Where bytes go.
 ghost use Rattle.std.specs.Prelude.{◌≤◌, ℕ, List, Option, OnErr};
 ghost use Rattle.rws_board.specs.Faults.{Rises};
 ghost use Rattle.rws_board.specs.Put.{PutAppends};
@@ -16,6 +16,6 @@ pub trait Sink {
     /// Takes the whole piece. A call that fails took a front of it.
     fn put(&mut self, piece: &[u8]) -> Result<(), Failed>
         ensures bytes { PutAppends (taken self.old) (taken self.new) result piece.now }
-        ensures kept { faults self.old ≤ faults self.new }
+        ensures counts { faults self.old ≤ faults self.new }
         ensures failed { OnErr result (Rises (faults self.old) (faults self.new)) };
 }

@@ -1,4 +1,4 @@
-// Where bytes come from.
+//! Where bytes come from.
 ghost use Rattle.std.specs.Prelude.{◌≤◌, ℕ, List, Option, length, IfOk, OnErr};
 ghost use Rattle.std.specs.Io.KnownBytes.{ReadConsumes};
 ghost use Rattle.rws_board.specs.Faults.{Rises};
@@ -18,6 +18,6 @@ pub trait Source {
     fn read(&mut self, buffer: &mut [u8]) -> Result<usize, Failed>
         ensures within { IfOk result (λ count. count ≤ length buffer.new) }
         ensures bytes { ReadConsumes (left self.old) (left self.new) result buffer.new }
-        ensures kept { faults self.old ≤ faults self.new }
+        ensures counts { faults self.old ≤ faults self.new }
         ensures failed { OnErr result (Rises (faults self.old) (faults self.new)) };
 }

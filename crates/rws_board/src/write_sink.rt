@@ -1,4 +1,4 @@
-// A sink over a writer.
+//! A sink over a writer.
 ghost use Rattle.std.specs.Prelude.{◌≡◌};
 ghost use Rattle.rws_board.specs.Put.{PutAppends};
 

@@ -6,7 +6,7 @@ use Rattle.std.proofs.lemmas.Grind.{flat_map-append}
 use Rattle.std.specs.Io.KnownBytes.{Appends}
 use Rattle.std.proofs.KnownBytes.{Appends-trans}
 use Rattle.rws_board.specs.declared.action.Action.{Action}
-use Rattle.rws_board.specs.Printing.{action_text, text_of}
+use Rattle.rws_trace.specs.Printing.{action_text, text_of}
 use Rattle.rws_board.specs.Put.{AppendsFront}
 
 pub text_of_more : (xs ys : List Action) → text_of (xs ++ ys) ≡ text_of xs ++ text_of ys

@@ -5,8 +5,8 @@ use Rattle.std.specs.Result.{IsErr, IsErrAnd}
 use Rattle.std.proofs.lemmas.Bool.{false≢true}
 use Rattle.rws_board.specs.declared.action.Action.{Action}
 use Rattle.rws_board.specs.declared.event.Event.{Event}
-use Rattle.rws_board.specs.Printing.{text_of}
-use Rattle.rws_board.specs.Reading.{Reading}
+use Rattle.rws_trace.specs.Printing.{text_of}
+use Rattle.rws_trace.specs.Reader.{ReaderState}
 use Rattle.rws_session.specs.Run.{Entry}
 use Rattle.rws_top.specs.declared.stop.Stop.{Stop}
 use Rattle.rws_top.specs.declared.worker.Worker.{Worker}
@@ -19,7 +19,7 @@ pub at_err : {T E : Type 0} (r : Result T E) (P : T → Type 0) (Q : E → Type 
 at_err (Ok x) P Q e h q = absurd h
 at_err (Err x) P Q e h q = subst Q (sym h) q
 
-pub steps_err : (left taken : Option (List ℕ)) (worker : Worker) (reader : Reading) (left' taken' : Option (List ℕ)) (input_failed output_failed : Type 0)
+pub steps_err : (left taken : Option (List ℕ)) (worker : Worker) (reader : ReaderState) (left' taken' : Option (List ℕ)) (input_failed output_failed : Type 0)
     (r : Result (Option ℕ) Stop) (stop : Stop) → IsErrAnd r (λ x. x ≡ stop)
     → AnswersTrace left taken taken' (IsAtEnd left') input_failed output_failed (stop_status stop)
     → Steps left taken worker reader left' taken' input_failed output_failed r

@@ -3,31 +3,32 @@ use Rattle.std.proofs.Common.{◌≡◌, ℕ, ◌+◌, ◌<◌, ◌≤◌, ◌^�
 use Rattle.std.proofs.lemmas.List.{append-nil, take-append-drop, length-append}
 use Rattle.std.specs.Io.KnownBytes.{Appends}
 use Rattle.std.proofs.KnownBytes.{Appends-trans, Appends-nil}
-use Rattle.rws_board.proofs.AheadLemmas.{ahead-then}
+use Rattle.rws_trace.proofs.AheadLemmas.{ahead-then}
+use Rattle.rws_trace.proofs.ReadsLemmas.{tells-next}
 use Rattle.rws_board.specs.declared.event.Event.{Event}
 use Rattle.rws_board.specs.declared.event.Event.TheVariants.{Begin, ClientBytes, ClientGone, LinkBytes, LinkGone, End}
-use Rattle.rws_board.specs.declared.read_error.ReadError.{ReadError}
-use Rattle.rws_board.specs.declared.read_error.ReadError.TheVariants as errors
-use Rattle.rws_board.specs.Lines.{lines_of}
-use Rattle.rws_board.specs.Printing.{text_of}
-use Rattle.rws_board.specs.Reading.{Reading, IsNext, TellsNext, script_at, count_of, fresh}
-use Rattle.rws_board.specs.Script.{Script, told_before, script_of}
+use Rattle.rws_trace.specs.declared.read_error.ReadError.{ReadError}
+use Rattle.rws_trace.specs.declared.read_error.ReadError.TheVariants as errors
+use Rattle.rws_trace.specs.Lines.{lines_of}
+use Rattle.rws_trace.specs.Printing.{text_of}
+use Rattle.rws_trace.specs.Reader.{ReaderState, IsNext, Tells, TellsNext, script_at, count_of, fresh}
+use Rattle.rws_trace.specs.Script.{Script, told_before, all_before, script_of}
 use Rattle.rws_session.specs.Run.{Entry, IsRunOver, events_of, done_in}
 use Rattle.rws_session.specs.Run.IsRun.{starts}
 use Rattle.rws_top.specs.declared.stop.Stop.{Stop}
 use Rattle.rws_top.specs.declared.stop.Stop.TheVariants as stops
 use Rattle.rws_top.specs.declared.worker.Worker.{Worker}
 use Rattle.rws_top.specs.Causes.{stop_of}
-use Rattle.rws_top.specs.Trace.{IsScript, IsWhole, IsBegun, IsFront, IsCut, Traces, AnswersTrace, closing}
+use Rattle.rws_top.specs.Trace.{IsScript, IsWhole, IsBegun, IsFront, IsCut, Traces, AnswersTrace, closing, trace_settings}
 use Rattle.rws_top.specs.Trace.Traces.{finished, stopped, unread, unwritten, out_of_memory, too_many}
-use Rattle.rws_top.specs.Tracing.{HasRead, IsUnderway, Passes, PassFails, PutFails, after, closing_status, stop_status}
+use Rattle.rws_top.specs.Tracing.{HasRead, IsUnderway, Passes, PassFails, PutFails, closing_status, stop_status}
 use Rattle.rws_top.specs.Tracing.PassFails.{unheard, unprinted}
 use Rattle.rws_top.specs.Worker.{WorkerStands}
 use Rattle.rws_top.proofs.Fronts.{text_of_more}
 
 -- Reading
 
-pub nothing_read : (left : Option (List ℕ)) → HasRead left [] fresh left
+pub nothing_read : (left : Option (List ℕ)) → HasRead left [] (fresh trace_settings) left
 nothing_read None = tt
 nothing_read (Some text) = refl
 
@@ -48,18 +49,18 @@ counts_one (ClientGone session) apart = refl
 counts_one (LinkBytes link bytes) apart = refl
 counts_one (LinkGone link) apart = refl
 
-after_one : (heard : List Event) (event : Event) (script : Script) → after heard (told_before event script) ≡ after (heard ++ event ∷ []) script
+after_one : (heard : List Event) (event : Event) (script : Script) → all_before heard (told_before event script) ≡ all_before (heard ++ event ∷ []) script
 after_one heard event script =
     ap (λ (events : List Event). let s : Script = record { events = events; bad_line = script.bad_line } in s) (sym (append_assoc heard (event ∷ []) script.events))
 
-pub read_more : (left : Option (List ℕ)) (heard : List Event) (event : Event) (old new : Reading) (left' left'' : Option (List ℕ)) → (event ≡ End → ⊥)
+pub read_more : (left : Option (List ℕ)) (heard : List Event) (event : Event) (old new : ReaderState) (left' left'' : Option (List ℕ)) → (event ≡ End → ⊥)
     → HasRead left heard old left' → TellsNext old left' event new left'' → HasRead left (heard ++ event ∷ []) new left''
 read_more left heard event old new left' left'' apart read tells =
     ahead-then
-    (λ before ahead. script_of before ≡ after heard (script_at old.place (lines_of ahead)))
-    (λ before ahead. IsNext event new.place.bad_line (script_at old.place (lines_of before)) (script_at new.place (lines_of ahead)))
-    (λ before ahead. script_of before ≡ after (heard ++ event ∷ []) (script_at new.place (lines_of ahead)))
-    (λ x y z e h. e ∙ ap (after heard) (next_event event new.place.bad_line _ _ apart h) ∙ after_one heard event (script_at new.place (lines_of z)))
+    (λ before ahead. script_of trace_settings before ≡ all_before heard (script_at old.place (lines_of ahead)))
+    (Tells event old.place new.place)
+    (λ before ahead. script_of trace_settings before ≡ all_before (heard ++ event ∷ []) (script_at new.place (lines_of ahead)))
+    (λ x y z e h. e ∙ ap (all_before heard) (next_event event new.place.bad_line _ _ apart (tells-next event old.place new.place y z h)) ∙ after_one heard event (script_at new.place (lines_of z)))
     [] old.held new.held left left' left'' read tells
 
 -- the script of the input, as far as it is known
@@ -69,22 +70,22 @@ pub record Begins (left : Option (List ℕ)) (heard : List Event) : Type 0 where
   pub ahead : List Event
   pub parted : script.events ≡ heard ++ ahead
 
-pub script_begins : (left : Option (List ℕ)) (heard : List Event) (reader : Reading) (left' : Option (List ℕ)) → HasRead left heard reader left'
+pub script_begins : (left : Option (List ℕ)) (heard : List Event) (reader : ReaderState) (left' : Option (List ℕ)) → HasRead left heard reader left'
     → Begins left heard
 script_begins None heard reader left' read =
     record { script = record { events = heard; bad_line = None }; of_input = tt; ahead = []; parted = sym (append-nil heard) }
 script_begins (Some text) heard reader None read = absurd read
 script_begins (Some text) heard reader (Some left') read =
-    record { script = script_of text; of_input = refl; ahead = (script_at reader.place (lines_of (reader.held ++ left'))).events; parted = ap (λ (s : Script). s.events) read }
+    record { script = script_of trace_settings text; of_input = refl; ahead = (script_at reader.place (lines_of (reader.held ++ left'))).events; parted = ap (λ (s : Script). s.events) read }
 
 -- at the end the script is known
-pub script_ends : (left : Option (List ℕ)) (heard : List Event) (old new : Reading) (left' left'' : Option (List ℕ)) → HasRead left heard old left'
+pub script_ends : (left : Option (List ℕ)) (heard : List Event) (old new : ReaderState) (left' left'' : Option (List ℕ)) → HasRead left heard old left'
     → TellsNext old left' End new left'' → IsScript left (record { events = heard; bad_line = new.place.bad_line })
 script_ends None heard old new left' left'' read tells = tt
 script_ends (Some text) heard old new None left'' read tells = absurd read
 script_ends (Some text) heard old new (Some bytes) None read tells = absurd tells
 script_ends (Some text) heard old new (Some bytes) (Some bytes') read tells =
-    sym (read ∙ ap (after heard) tells.0
+    sym (read ∙ ap (all_before heard) tells.0
     ∙ ap (λ (events : List Event). let s : Script = record { events = events; bad_line = new.place.bad_line } in s) (append-nil heard))
 
 -- Answers
@@ -93,7 +94,7 @@ front_of_self : (text : List ℕ) → IsFront text text
 front_of_self text = record { rest = []; parted = sym (append-nil text) }
 
 -- what is put between two events is the text of a run that has begun
-pub begun_text : (left taken : Option (List ℕ)) (worker : Worker) (reader : Reading) (left' taken' : Option (List ℕ))
+pub begun_text : (left taken : Option (List ℕ)) (worker : Worker) (reader : ReaderState) (left' taken' : Option (List ℕ))
     → (u : IsUnderway left taken worker reader left' taken') → (b : Begins left (events_of u.run)) → IsBegun b.script (text_of (done_in u.run))
 begun_text left taken worker reader left' taken' u b = record {
   heard = events_of u.run;
@@ -105,7 +106,7 @@ begun_text left taken worker reader left' taken' u b = record {
 }
 
 -- the next event couldn't be read
-pub unread_answers : (left taken : Option (List ℕ)) (worker : Worker) (reader : Reading) (left' taken' : Option (List ℕ)) (at_end input_failed output_failed : Type 0)
+pub unread_answers : (left taken : Option (List ℕ)) (worker : Worker) (reader : ReaderState) (left' taken' : Option (List ℕ)) (at_end input_failed output_failed : Type 0)
     (error : ReadError) → (error ≡ errors.Failed → input_failed) → IsUnderway left taken worker reader left' taken'
     → AnswersTrace left taken taken' at_end input_failed output_failed (stop_status (stop_of error))
 unread_answers left taken worker reader left' taken' at_end input_failed output_failed errors.Failed rose u =
@@ -185,7 +186,7 @@ by_bad_line script printed at_end input_failed output_failed None is ends whole 
 by_bad_line script printed at_end input_failed output_failed (Some line) is ends whole = stopped line refl is whole
 
 -- the closing line is put
-pub closed_answers : (left taken : Option (List ℕ)) (worker : Worker) (reader new : Reading) (left' left'' taken' taken'' : Option (List ℕ)) (at_end input_failed output_failed : Type 0) (status : ℕ)
+pub closed_answers : (left taken : Option (List ℕ)) (worker : Worker) (reader new : ReaderState) (left' left'' taken' taken'' : Option (List ℕ)) (at_end input_failed output_failed : Type 0) (status : ℕ)
     → IsUnderway left taken worker reader left' taken' → TellsNext reader left' End new left'' → new.place.events ≡ reader.place.events + 0
     → (new.place.bad_line ≡ None → at_end) → Appends taken' taken'' (closing new.place.events new.place.bad_line)
     → status ≡ closing_status new.place.bad_line
@@ -204,7 +205,7 @@ closed_answers left taken worker reader new left' left'' taken' taken'' at_end i
     }
 
 -- the closing line isn't put as a whole
-pub unclosed_answers : (left taken : Option (List ℕ)) (worker : Worker) (reader new : Reading) (left' left'' taken' taken'' : Option (List ℕ)) (at_end input_failed output_failed : Type 0) (stop : Stop)
+pub unclosed_answers : (left taken : Option (List ℕ)) (worker : Worker) (reader new : ReaderState) (left' left'' taken' taken'' : Option (List ℕ)) (at_end input_failed output_failed : Type 0) (stop : Stop)
     → IsUnderway left taken worker reader left' taken' → TellsNext reader left' End new left'' → new.place.events ≡ reader.place.events + 0
     → PutFails stop taken' taken'' (closing new.place.events new.place.bad_line) output_failed
     → AnswersTrace left taken taken'' at_end input_failed output_failed (stop_status stop)
@@ -215,7 +216,7 @@ unclosed_answers left taken worker reader new left' left'' taken' taken'' at_end
     (inl (whole_text u.run worker new.place.events new.place.bad_line u.stands u.few counted)) fails
 
 -- the next event is one too many
-pub too_many_answers : (left taken : Option (List ℕ)) (worker : Worker) (reader new : Reading) (left' left'' taken' : Option (List ℕ)) (at_end input_failed output_failed : Type 0) (event : Event)
+pub too_many_answers : (left taken : Option (List ℕ)) (worker : Worker) (reader new : ReaderState) (left' left'' taken' : Option (List ℕ)) (at_end input_failed output_failed : Type 0) (event : Event)
     → IsUnderway left taken worker reader left' taken' → (event ≡ End → ⊥) → TellsNext reader left' event new left''
     → new.place.events ≡ reader.place.events + count_of event → 2 ^ 32 ≤ new.place.events
     → AnswersTrace left taken taken' at_end input_failed output_failed 10
@@ -241,7 +242,7 @@ too_many_answers left taken worker reader new left' left'' taken' at_end input_f
     }
 
 -- the event was told, and all that came of it is put
-pub passed_on : (left taken : Option (List ℕ)) (worker worker' : Worker) (reader new : Reading) (left' left'' taken' taken'' : Option (List ℕ)) (event : Event)
+pub passed_on : (left taken : Option (List ℕ)) (worker worker' : Worker) (reader new : ReaderState) (left' left'' taken' taken'' : Option (List ℕ)) (event : Event)
     → (u : IsUnderway left taken worker reader left' taken') → (event ≡ End → ⊥) → TellsNext reader left' event new left''
     → new.place.events ≡ reader.place.events + count_of event → new.place.events < 2 ^ 32
     → Passes u.run event worker' taken' taken''
@@ -263,7 +264,7 @@ passed_on left taken worker worker' reader new left' left'' taken' taken'' event
     }
 
 -- the event wasn't told, or what came of it isn't put as a whole
-pub unpassed_answers : (left taken : Option (List ℕ)) (worker : Worker) (reader new : Reading) (left' left'' taken' taken'' : Option (List ℕ)) (at_end input_failed output_failed : Type 0) (event : Event) (stop : Stop)
+pub unpassed_answers : (left taken : Option (List ℕ)) (worker : Worker) (reader new : ReaderState) (left' left'' taken' taken'' : Option (List ℕ)) (at_end input_failed output_failed : Type 0) (event : Event) (stop : Stop)
     → (u : IsUnderway left taken worker reader left' taken') → (event ≡ End → ⊥) → TellsNext reader left' event new left''
     → PassFails u.run event stop taken' taken'' output_failed
     → AnswersTrace left taken taken'' at_end input_failed output_failed (stop_status stop)
@@ -309,7 +310,7 @@ pub unbegun_answers : (left taken : Option (List ℕ)) (at_end input_failed outp
     → AnswersTrace left taken taken at_end input_failed output_failed 9
 unbegun_answers left taken at_end input_failed output_failed =
     let over : IsRunOver [] [] = record { legal = starts; rests = refl; heard = refl } in
-    let b = script_begins left [] fresh left (nothing_read left) in
+    let b = script_begins left [] (fresh trace_settings) left (nothing_read left) in
     record {
       script = b.script;
       printed = [];

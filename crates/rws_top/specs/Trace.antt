@@ -1,9 +1,10 @@
 -- What the program answers and prints, by its status.
-use Rattle.std.specs.Prelude.{◌≡◌, ℕ, ◌+◌, ◌^◌, ◌<◌, ◌≤◌, ◌⊎◌, Bool, false, ◌&&◌, List, [], ◌∷◌, ◌++◌, length, codes, bytes_eq, Option, Some, None, ⊤}
+use Rattle.std.specs.Prelude.{◌≡◌, ℕ, ◌+◌, ◌^◌, ◌<◌, ◌≤◌, ◌⊎◌, Bool, true, false, ◌&&◌, List, [], ◌∷◌, ◌++◌, length, codes, bytes_eq, Option, Some, None, ⊤}
 use Rattle.std.specs.Io.KnownBytes.{Appends}
 use Rattle.rws_board.specs.declared.event.Event.{Event}
-use Rattle.rws_board.specs.Script.{Script, script_of}
-use Rattle.rws_board.specs.Printing.{text_of, end_line, bad_line, usage_line}
+use Rattle.rws_trace.specs.Script.{Script, script_of}
+use Rattle.rws_trace.specs.Printing.{text_of, end_line, bad_line, usage_line}
+use Rattle.rws_trace.specs.declared.settings.TraceSettings.{TraceSettings}
 use Rattle.rws_session.specs.Run.{Entry, IsRunOver, done_in}
 
 -- the one command so far: the trace of standard input, with the built-in settings
@@ -11,9 +12,13 @@ abbrev pub is_trace : List (List ℕ) → Bool
 is_trace (command ∷ settings ∷ []) = bytes_eq command (codes "trace") && bytes_eq settings (codes "-")
 is_trace words = false
 
+-- the built-in settings: three servers, and a first account without a password
+abbrev pub trace_settings : TraceSettings
+trace_settings = record { servers = 3; plain = true }
+
 -- the script of the input's text, where the text is known
 abbrev pub IsScript : Option (List ℕ) → Script → Type 0
-IsScript (Some text) script = script ≡ script_of text
+IsScript (Some text) script = script ≡ script_of trace_settings text
 IsScript None script = ⊤
 
 -- the line that closes the trace of a script: how many events it had, or the bad line at which it stopped

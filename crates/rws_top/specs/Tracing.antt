@@ -3,16 +3,16 @@ use Rattle.std.specs.Prelude.{◌≡◌, ℕ, ◌^◌, ◌<◌, List, [], ◌++�
 use Rattle.std.specs.Io.KnownBytes.{Appends, IsAtEnd}
 use Rattle.rws_board.specs.declared.action.Action.{Action}
 use Rattle.rws_board.specs.declared.event.Event.{Event}
-use Rattle.rws_board.specs.Lines.{lines_of}
-use Rattle.rws_board.specs.Printing.{text_of}
+use Rattle.rws_trace.specs.Lines.{lines_of}
+use Rattle.rws_trace.specs.Printing.{text_of}
 use Rattle.rws_board.specs.Put.{AppendsFront}
-use Rattle.rws_board.specs.Reading.{Reading, Ahead, script_at}
-use Rattle.rws_board.specs.Script.{Script, script_of}
+use Rattle.rws_trace.specs.Reader.{ReaderState, Ahead, script_at}
+use Rattle.rws_trace.specs.Script.{all_before, script_of}
 use Rattle.rws_session.specs.Run.{Entry, events_of, done_in}
 use Rattle.rws_top.specs.declared.stop.Stop.{Stop}
 use Rattle.rws_top.specs.declared.stop.Stop.TheVariants.{Unread, Unwritten, OutOfMemory, TooManyEvents}
 use Rattle.rws_top.specs.declared.worker.Worker.{Worker}
-use Rattle.rws_top.specs.Trace.{AnswersTrace}
+use Rattle.rws_top.specs.Trace.{AnswersTrace, trace_settings}
 use Rattle.rws_top.specs.Worker.{WorkerStands, Advances}
 
 abbrev pub stop_status : Stop → ℕ
@@ -25,17 +25,13 @@ abbrev pub status_of : Result ℕ Stop → ℕ
 status_of (Ok status) = status
 status_of (Err stop) = stop_status stop
 
--- these events, and then the script
-abbrev pub after : List Event → Script → Script
-after events script = record { events = events ++ script.events; bad_line = script.bad_line }
-
 -- the input was read so far: these events, and what is ahead of the reader
-abbrev pub HasRead : Option (List ℕ) → List Event → Reading → Option (List ℕ) → Type 0
+abbrev pub HasRead : Option (List ℕ) → List Event → ReaderState → Option (List ℕ) → Type 0
 HasRead left heard reader left' =
-    Ahead (λ before ahead. script_of before ≡ after heard (script_at reader.place (lines_of ahead))) [] left reader.held left'
+    Ahead (λ before ahead. script_of trace_settings before ≡ all_before heard (script_at reader.place (lines_of ahead))) [] left reader.held left'
 
 -- between two events: all that came of the events so far is put
-pub record IsUnderway (left taken : Option (List ℕ)) (worker : Worker) (reader : Reading) (left' taken' : Option (List ℕ)) : Type 0 where
+pub record IsUnderway (left taken : Option (List ℕ)) (worker : Worker) (reader : ReaderState) (left' taken' : Option (List ℕ)) : Type 0 where
   pub run : List Entry
   pub stands : WorkerStands worker run
   pub counted : reader.place.events ≡ length (events_of run)
@@ -67,7 +63,7 @@ closing_status None = 0
 closing_status (Some line) = 7
 
 -- one step of the trace: it goes on, or it is over
-abbrev pub Steps : (left taken : Option (List ℕ)) → Worker → Reading → (left' taken' : Option (List ℕ)) → (input_failed output_failed : Type 0)
+abbrev pub Steps : (left taken : Option (List ℕ)) → Worker → ReaderState → (left' taken' : Option (List ℕ)) → (input_failed output_failed : Type 0)
     → Result (Option ℕ) Stop → Type 0
 Steps left taken worker reader left' taken' input_failed output_failed (Ok None) = IsUnderway left taken worker reader left' taken'
 Steps left taken worker reader left' taken' input_failed output_failed (Ok (Some status)) =

@@ -2,12 +2,13 @@
 ghost use Rattle.std.specs.Prelude.{◌≡◌, ◌≤◌, Option, MatchResult};
 ghost use Rattle.std.specs.Io.KnownBytes.{Appends};
 ghost use Rattle.rws_board.specs.Faults.{Rises};
-ghost use Rattle.rws_board.specs.Printing.{text_of};
+ghost use Rattle.rws_trace.specs.Printing.{text_of};
 ghost use Rattle.rws_top.specs.Trace.{closing};
 ghost use Rattle.rws_top.specs.Tracing.{PutFails};
 
 use crate::stop::Stop;
-use rws_board::{Action, Sink, action_line, bad_line, end_line};
+use rws_board::{Action, Sink};
+use rws_trace::{action_line, bad_line, end_line};
 use std::alloc::Global;
 
 /// Puts the lines of actions, in order.

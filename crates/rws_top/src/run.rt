@@ -7,7 +7,8 @@ ghost use Rattle.rws_top.specs.Tracing.{status_of};
 
 use crate::stop::Stop;
 use crate::tracer::Tracer;
-use rws_board::{Failed, Sink, Source, usage_line};
+use rws_board::{Failed, Sink, Source};
+use rws_trace::usage_line;
 use std::alloc::Global;
 
 /// Runs the program on the words of its command line, without the program's name, and gives its exit status. The words

@@ -2,7 +2,8 @@
 ghost use Rattle.std.specs.Prelude.{◌≡◌};
 ghost use Rattle.rws_top.specs.Tracing.{stop_status};
 
-use rws_board::{Failed, ReadError};
+use rws_board::Failed;
+use rws_trace::ReadError;
 use std::alloc::AllocError;
 
 /// Why a run stops before the end of its script.

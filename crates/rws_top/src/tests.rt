@@ -15,7 +15,7 @@ const USAGE: &[u8] =
     b"usage: rwsplit trace SETTINGS | simulate SETTINGS N SESSIONS STEPS | serve SETTINGS | check SETTINGS FILE\n";
 
 // Inputs with their statuses and what is printed.
-const TRACES: [(&[u8], u8, &[u8]); 7] = [
+const TRACES: [(&[u8], u8, &[u8]); 8] = [
     (A_PING, 0, b"client 1 0700000100000002000000\nend 2\n"),
     // a ping in five pieces
     (
@@ -37,11 +37,13 @@ const TRACES: [(&[u8], u8, &[u8]); 7] = [
     ),
     (b"", 0, b"end 0\n"),
     (b"begin 1 0\njump\n", 7, b"bad line 2\n"),
-    // three sessions, of which one has a server that isn't there; what names a link that is gone gives nothing
+    // a server that isn't there
+    (b"begin 1 0\nbegin 2 3\n", 7, b"bad line 2\n"),
+    // three sessions; what names a session that isn't there, or a link that is gone, gives nothing
     (
-        b"begin 1 0\nbegin 2 3\nbegin 5 1\nbegin 9 2\nclient 9 020000000378\nclient 2 010000000e\nclient 5 010000000e\ngone 1\nlink 1 00\nlink 3 0700000100000002000000\nclient 1 010000000e\nlink 2 00\nlost 3\nclient 9 010000000e\n",
+        b"begin 1 0\nbegin 5 1\nbegin 9 2\nclient 9 020000000378\nclient 2 010000000e\nclient 5 010000000e\ngone 1\nlink 1 00\nlink 3 0700000100000002000000\nclient 1 010000000e\nlink 2 00\nlost 3\nclient 9 010000000e\n",
         0,
-        b"link 3 020000000378\nclient 5 0700000100000002000000\ndrop 1 end\nclient 9 0700000100000002000000\ndrop 2 unasked\nclose 5 session-state\nclose 9 session-state\nend 14\n",
+        b"link 3 020000000378\nclient 5 0700000100000002000000\ndrop 1 end\nclient 9 0700000100000002000000\ndrop 2 unasked\nclose 5 session-state\nclose 9 session-state\nend 13\n",
     ),
 ];
 

@@ -2,20 +2,27 @@
 ghost use Rattle.std.specs.Prelude.{◌≡◌, ◌<◌, ◌≤◌, ◌^◌, ℕ, List, [], Option, None, Ok, MatchResult, IfOk};
 ghost use Rattle.std.specs.Io.KnownBytes.{Appends};
 ghost use Rattle.rws_board.specs.Faults.{Rises};
-ghost use Rattle.rws_board.specs.Reading.{fresh};
+ghost use Rattle.rws_trace.specs.Reader.{fresh};
 ghost use Rattle.rws_session.specs.Run.{Entry};
-ghost use Rattle.rws_top.specs.Trace.{closing};
+ghost use Rattle.rws_top.specs.Trace.{closing, trace_settings};
 ghost use Rattle.rws_top.specs.Tracing.{IsUnderway, Passes, PassFails, PutFails, Steps, closing_status};
 ghost use Rattle.rws_top.specs.Worker.{HasRun, WorkerStands};
 
 use crate::printer::{put_actions, put_closing};
 use crate::stop::Stop;
-use crate::worker::Worker;
-use rws_board::{Event, EventReader, Sink, Source};
+use crate::worker::{SERVERS, Worker};
+use rws_board::{Event, Sink, Source};
+use rws_trace::{EventReader, TraceSettings};
 use std::alloc::{AllocError, Global};
 
 /// How many events a run takes at most.
 const MAX_EVENTS: u64 = 4_294_967_295;
+
+/// The built-in settings: their first account has no password.
+const SETTINGS: TraceSettings = TraceSettings {
+    servers: SERVERS,
+    plain: true,
+};
 
 /// A worker, and the reader of the events that it is told.
 #[derive(Drop)]
@@ -29,11 +36,11 @@ impl Tracer {
     /// A run at the start of its trace.
     pub fn new(alloc: Global) -> Result<Tracer, AllocError>
         ensures worker { IfOk result (λ tracer. WorkerStands tracer.worker []) }
-        ensures reader { IfOk result (λ tracer. tracer.reader ≡ fresh) }
+        ensures reader { IfOk result (λ tracer. tracer.reader ≡ fresh trace_settings) }
     {
         Ok(Tracer {
             alloc,
-            reader: EventReader::new(alloc)?,
+            reader: EventReader::new(alloc, SETTINGS)?,
             worker: Worker::new(alloc),
         })
     }

@@ -13,7 +13,7 @@ use std::alloc::{AllocError, Global};
 use std::collections::BTreeMap;
 
 /// How many servers the settings have.
-const SERVERS: u8 = 3;
+pub(crate) const SERVERS: u8 = 3;
 
 /// A session that isn't over, and the link that was opened for it.
 #[derive(Drop)]

@@ -1,5 +1,5 @@
 use Rattle.std.proofs.Common.{◌≡◌, ℕ, List, subst, ◌∙◌, List, arith}
-use Rattle.rws_board.specs.Printing.{action_text}
+use Rattle.rws_trace.specs.Printing.{action_text}
 use Rattle.rws_board.specs.Put.{AppendsFront}
 use Rattle.rws_top.specs.declared.stop.Stop.TheVariants.{Unwritten, OutOfMemory}
 use Rattle.rws_top.proofs.Fronts.{front_of_first, front_of_next}

@@ -1,6 +1,6 @@
 use Rattle.std.proofs.Common.{◌≤◌, take}
 use Rattle.std.specs.Io.KnownBytes.{Appends}
-use Rattle.rws_board.specs.Printing.{text_of}
+use Rattle.rws_trace.specs.Printing.{text_of}
 use Rattle.rws_top.proofs.printer.put_actions.Given as goal
 
 abbrev pub invariant-loop-action : goal.invariant-loop-action

@@ -1,6 +1,6 @@
 use Rattle.std.proofs.Common.{◌≡◌, take, drop, sym, refl, ◌∙◌}
 use Rattle.std.proofs.lemmas.List.{take-append-drop}
-use Rattle.rws_board.specs.Printing.{usage_line}
+use Rattle.rws_trace.specs.Printing.{usage_line}
 use Rattle.rws_top.specs.Trace.Refuses.{unwritten}
 use Rattle.rws_top.proofs.run.refuse.Goals as goal
 

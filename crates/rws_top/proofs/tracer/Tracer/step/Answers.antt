@@ -1,6 +1,6 @@
 use Rattle.std.proofs.Common.{◌+◌, ◌<◌, ◌^◌, sym, ap, subst, refl, ◌∙◌, None, Ok, Err, arith}
 use Rattle.rws_board.specs.declared.event.Event.{Event}
-use Rattle.rws_board.specs.Reading.{Reading, TellsNext, count_of}
+use Rattle.rws_trace.specs.Reader.{ReaderState, TellsNext, count_of}
 use Rattle.rws_top.specs.declared.stop.Stop.TheVariants.{TooManyEvents}
 use Rattle.rws_top.specs.Tracing.{IsUnderway}
 use Rattle.rws_top.proofs.Stops.{steps_err, not_ok}
@@ -27,7 +27,7 @@ returns-then-events-gt-MAX_EVENTS g c = record {
       c.in_ok-event.ensures.told c.in_ok-event.ensures.events (let many = c.if-events-gt-MAX_EVENTS.true in let same = c.events.ensures in omega arith);
   further = λ e. absurd (not_ok (Err TooManyEvents) None refl e);
   few = λ e. absurd (not_ok (Err TooManyEvents) None refl e);
-  input_kept = c.in_ok-event.ensures.kept;
+  input_kept = c.in_ok-event.ensures.counts;
   output_kept = omega arith;
 }
 
@@ -40,7 +40,7 @@ returns-in_err-pass-in_default g c = record {
       u c.in_default.not-End c.in_ok-event.ensures.told (c.in_err-pass-in_default.ensures.passed u.run u.stands));
   further = λ e. absurd (not_ok _ _ c.from_residual-in_err-pass-in_default.ensures.0 e);
   few = λ e. absurd (not_ok _ _ c.from_residual-in_err-pass-in_default.ensures.0 e);
-  input_kept = c.in_ok-event.ensures.kept;
+  input_kept = c.in_ok-event.ensures.counts;
   output_kept = c.in_err-pass-in_default.ensures.kept;
 }
 
@@ -56,12 +56,12 @@ returns-in_ok-pass-in_default g c =
     let few : c.next.new.self.place.events < 2 ^ 32 = let low = c.if-events-gt-MAX_EVENTS.false in let same = c.events.ensures in omega arith in
     record {
       told = λ left taken u.
-          subst (λ (reader : Reading). IsUnderway left taken c.pass.new.self.worker reader (g.I.Source.left c.next.new.input) (g.O.Sink.taken c.pass.new.out)) (sym c.pass.ensures.reader)
+          subst (λ (reader : ReaderState). IsUnderway left taken c.pass.new.self.worker reader (g.I.Source.left c.next.new.input) (g.O.Sink.taken c.pass.new.out)) (sym c.pass.ensures.reader)
           (passed_on left taken c.args.self.now.worker c.pass.new.self.worker c.args.self.now.reader c.next.new.self _ _ _ _ c.in_ok-event.event u c.in_default.not-End
           c.in_ok-event.ensures.told c.in_ok-event.ensures.events few (c.in_ok-pass-in_default.ensures.passed u.run u.stands));
       further = λ _. (let one = counts_one c.in_ok-event.event c.in_default.not-End in let counts = c.in_ok-event.ensures.events in
-          let same = ap (λ (reader : Reading). reader.place.events) c.pass.ensures.reader in omega arith);
-      few = λ _. (let same = ap (λ (reader : Reading). reader.place.events) c.pass.ensures.reader in omega arith);
-      input_kept = c.in_ok-event.ensures.kept;
+          let same = ap (λ (reader : ReaderState). reader.place.events) c.pass.ensures.reader in omega arith);
+      few = λ _. (let same = ap (λ (reader : ReaderState). reader.place.events) c.pass.ensures.reader in omega arith);
+      input_kept = c.in_ok-event.ensures.counts;
       output_kept = c.in_ok-pass-in_default.ensures.kept;
     }

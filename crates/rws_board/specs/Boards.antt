@@ -1,0 +1,65 @@
+-- What boards do.
+use Rattle.std.specs.Prelude.{◌≡◌, ℕ, ◌⊎◌, List, [], ◌∷◌, ◌++◌, ⊤}
+use Rattle.rws_board.specs.declared.action.Action.{Action}
+use Rattle.rws_board.specs.declared.board_fault.BoardFault.{BoardFault}
+use Rattle.rws_board.specs.declared.event.Event.{Event}
+use Rattle.rws_board.specs.declared.event.Event.TheVariants.{End}
+use Rattle.rws_board.specs.declared.interaction.Interaction.{Interaction}
+use Rattle.rws_board.specs.declared.interaction.Interaction.TheVariants.{Gave, Took}
+
+-- how a board stands: it may be called, it gave the end, or its last call failed
+pub data Standing : Type 0 where
+  Going : Standing
+  Ended : Standing
+  Failing : BoardFault → Standing
+
+-- what an event adds to the list of what the board did: the end nothing
+abbrev pub given : Event → List Interaction
+given End = []
+given event = Gave event ∷ []
+
+abbrev pub standing_after : Event → Standing
+standing_after End = Ended
+standing_after event = Going
+
+-- the events that were given
+abbrev pub events_given : List Interaction → List Event
+events_given [] = []
+events_given (Gave event ∷ interactions) = event ∷ events_given interactions
+events_given (Took action ∷ interactions) = events_given interactions
+
+-- the actions that were taken
+abbrev pub actions_taken : List Interaction → List Action
+actions_taken [] = []
+actions_taken (Gave event ∷ interactions) = actions_taken interactions
+actions_taken (Took action ∷ interactions) = action ∷ actions_taken interactions
+
+-- all of it was done, but for the last action
+pub record IsAllButLast (done interactions : List Interaction) : Type 0 where
+  pub action : Action
+  pub parted : interactions ≡ done ++ Took action ∷ []
+
+-- A board in memory: the events ahead, all that it did, and which calls are to fail, how many were made and how many
+-- of them failed.
+pub record ListBoardState : Type 0 where
+  pub ahead : List Event
+  pub done : List Interaction
+  pub fails : List ℕ
+  pub calls : ℕ
+  pub faults : ℕ
+
+-- no event is ahead of the end
+abbrev pub IsOver : List Event → Type 0
+IsOver [] = ⊤
+IsOver (End ∷ events) = ⊤
+IsOver (event ∷ events) = ⊥
+
+-- it did this, and then stands so; events are given from the front of those ahead
+abbrev pub ListDid : ListBoardState → ListBoardState → List Interaction → Standing → Type 0
+ListDid old new interactions Going =
+    (new.done ≡ old.done ++ interactions) × (old.ahead ≡ events_given interactions ++ new.ahead)
+ListDid old new interactions Ended =
+    (new.done ≡ old.done ++ interactions) × (ahead : List Event) × (old.ahead ≡ events_given interactions ++ ahead) × IsOver ahead
+ListDid old new interactions (Failing fault) =
+    (done : List Interaction) × ((done ≡ interactions) ⊎ IsAllButLast done interactions) × (new.done ≡ old.done ++ done)
+    × (ahead : List Event) × (old.ahead ≡ events_given interactions ++ ahead)

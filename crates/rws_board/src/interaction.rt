@@ -1,0 +1,12 @@
+//! What a board did.
+
+use crate::{Action, Event};
+
+/// One thing that a board did.
+#[derive(Debug, Drop, PartialEq, Eq)]
+pub enum Interaction {
+    /// It gave this event.
+    Gave(Event),
+    /// It took this action.
+    Took(Action),
+}

@@ -1,0 +1,122 @@
+-- Lines, scripts and printed lines, computed.
+use Rattle.std.proofs.Common.{◌≡◌, [], ◌∷◌, ◌++◌, Some, None, true, false, codes, refl}
+use Rattle.hex.proofs.OnLiterals.{hex_on_literals}
+use Rattle.std.specs.Fmt.{digits}
+use Rattle.rws_trace.specs.Lines.{lines_of}
+use Rattle.rws_trace.specs.EventLine.{meaning_of}
+use Rattle.rws_trace.specs.Script.{script_of, ended, told_before, script_from}
+use Rattle.rws_trace.specs.Printing.{action_text, end_line, bad_line}
+use Rattle.rws_board.specs.declared.action.Action.TheVariants.{ToClient, Drop, Close}
+use Rattle.rws_board.specs.declared.event.Event.TheVariants.{Begin, ClientBytes, ClientGone, LinkBytes, LinkGone}
+use Rattle.rws_trace.specs.declared.event_line.EventLine.TheVariants.{Silent, Says, Bad}
+use Rattle.rws_trace.specs.declared.settings.TraceSettings.{TraceSettings}
+use Rattle.rws_wire.specs.declared.close_reason.CloseReason.TheVariants.{Mismatch}
+use Rattle.rws_wire.specs.declared.drop_cause.DropCause.TheVariants.{Login}
+
+-- three servers, and an account without a password
+abbrev three : TraceSettings
+three = record { servers = 3; plain = true }
+
+-- an empty line is a line, and behind the last line feed there is none
+lines-middle : lines_of (codes "ab\n\nc") ≡ codes "ab" ∷ [] ∷ codes "c" ∷ []
+lines-middle = refl
+
+lines-end : lines_of (codes "ab\n") ≡ codes "ab" ∷ []
+lines-end = refl
+
+lines-feed : lines_of (codes "\n") ≡ [] ∷ []
+lines-feed = refl
+
+says-begin : meaning_of three (codes "begin 4294967295 2") ≡ Says (Begin 4294967295 2)
+says-begin = refl
+
+says-client : meaning_of three (codes "client 7 0aFf") ≡ Says (ClientBytes 7 (10 ∷ 255 ∷ []))
+unfolding hex_on_literals
+says-client = refl
+
+says-link : meaning_of three (codes "link 18446744073709551615 00") ≡ Says (LinkBytes 18446744073709551615 (0 ∷ []))
+unfolding hex_on_literals
+says-link = refl
+
+says-gone : meaning_of three (codes "gone 1") ≡ Says (ClientGone 1)
+says-gone = refl
+
+says-lost : meaning_of three (codes "lost 12") ≡ Says (LinkGone 12)
+says-lost = refl
+
+says-comment : meaning_of three (codes "# begin 1 0") ≡ Silent
+says-comment = refl
+
+bad-number : meaning_of three (codes "begin 01 0") ≡ Bad
+bad-number = refl
+
+bad-zero : meaning_of three (codes "gone 0") ≡ Bad
+bad-zero = refl
+
+bad-server : meaning_of three (codes "begin 1 3") ≡ Bad
+bad-server = refl
+
+bad-password : meaning_of (record { servers = 3; plain = false }) (codes "begin 1 0") ≡ Bad
+bad-password = refl
+
+bad-session : meaning_of three (codes "gone 4294967296") ≡ Bad
+bad-session = refl
+
+bad-link : meaning_of three (codes "lost 18446744073709551616") ≡ Bad
+bad-link = refl
+
+bad-blank : meaning_of three (codes "gone  1") ≡ Bad
+bad-blank = refl
+
+bad-end : meaning_of three (codes "gone 1 ") ≡ Bad
+bad-end = refl
+
+bad-odd : meaning_of three (codes "client 1 0") ≡ Bad
+unfolding hex_on_literals
+bad-odd = refl
+
+bad-hex : meaning_of three (codes "client 1 0g") ≡ Bad
+unfolding hex_on_literals
+bad-hex = refl
+
+bad-no_bytes : meaning_of three (codes "client 1 ") ≡ Bad
+bad-no_bytes = refl
+
+bad-word : meaning_of three (codes "jump") ≡ Bad
+bad-word = refl
+
+-- the first trace
+script-ping : script_of three (codes "begin 1 0\n\n# ping\nclient 1 010000000e\n") ≡ told_before (Begin 1 0) (told_before (ClientBytes 1 (1 ∷ 0 ∷ 0 ∷ 0 ∷ 14 ∷ [])) (ended None))
+unfolding hex_on_literals
+script-ping = refl
+
+-- nothing counts behind a bad line
+script-jump : script_of three (codes "begin 1 0\njump\ngone 1\n") ≡ told_before (Begin 1 0) (ended (Some 2))
+script-jump = refl
+
+-- sessions begin in rising order
+script-order : script_of three (codes "begin 2 0\nbegin 4 0\ngone 2\nbegin 4 0") ≡ told_before (Begin 2 0) (told_before (Begin 4 0) (told_before (ClientGone 2) (ended (Some 4))))
+script-order = refl
+
+script-empty : script_of three [] ≡ ended None
+script-empty = refl
+
+-- the last line that is counted
+script-last : script_from three 8589934591 0 (codes "gone 1" ∷ codes "" ∷ []) ≡ told_before (ClientGone 1) (ended (Some 8589934592))
+script-last = refl
+
+printed-client : action_text (ToClient 1 (10 ∷ 255 ∷ [])) ≡ codes "client 1 0aff\n"
+unfolding hex_on_literals digits
+printed-client = refl
+
+printed-drop : action_text (Drop 18446744073709551615 (Login 1045)) ≡ codes "drop 18446744073709551615 login 1045\n"
+unfolding digits
+printed-drop = refl
+
+printed-close : action_text (Close 2 (Mismatch 3 [] [])) ≡ codes "close 2 mismatch 3\n"
+unfolding digits
+printed-close = refl
+
+printed-end : end_line 0 ++ bad_line 2 ≡ codes "end 0\nbad line 2\n"
+unfolding digits
+printed-end = refl

@@ -1,0 +1,107 @@
+-- What a line at a place does to the script.
+use Rattle.std.proofs.Common.{◌≡◌, ◌≢◌, ℕ, ◌+◌, ◌≤◌, Bool, true, false, cond, List, [], ◌∷◌, length, Option, Some, None, option_map, refl, sym, ◌∙◌, ap, codes, bytes_eq, arith}
+use Rattle.std.specs.Bool.{⊤}
+use Rattle.std.proofs.lemmas.Bool.Decides.{nat_tests}
+use Rattle.rws_trace.specs.EventLine.{meaning_of, said_or_bad, event_of, event_of_two, event_of_three, words_of, with_both, session_of, link_of, server_of, bytes_of, begin_of}
+use Rattle.rws_trace.specs.Reader.{IsNext, script_at, count_of}
+use Rattle.rws_trace.specs.Script.{Script, told_before, in_order, meaning_at, begun_after}
+use Rattle.rws_board.specs.declared.event.Event.{Event}
+use Rattle.rws_board.specs.declared.event.Event.TheVariants.{Begin, ClientBytes, ClientGone, LinkBytes, LinkGone, End}
+use Rattle.rws_trace.specs.declared.event_line.EventLine.{EventLine}
+use Rattle.rws_trace.specs.declared.event_line.EventLine.TheVariants.{Silent, Says, Bad}
+use Rattle.rws_trace.specs.declared.event_line.TheConstants.{MAX_LINE, LAST_LINE}
+use Rattle.rws_trace.specs.declared.place.Place.{Place}
+use Rattle.rws_trace.specs.declared.settings.TraceSettings.{TraceSettings}
+
+-- no line says the end
+abbrev NotEnd : Option Event → Type 0
+NotEnd None = ⊤
+NotEnd (Some event) = event ≢ End
+
+NotEnd-cond : (b : Bool) (x y : Option Event) → NotEnd x → NotEnd y → NotEnd (cond b x y)
+NotEnd-cond true x y p q = p
+NotEnd-cond false x y p q = q
+
+NotEnd-map : {A : Type 0} (f : A → Event) → ((a : A) → f a ≢ End) → (o : Option A) → NotEnd (option_map f o)
+NotEnd-map f not None = tt
+NotEnd-map f not (Some a) = not a
+
+NotEnd-both : {A B : Type 0} (f : A → B → Event) → ((a : A) (b : B) → f a b ≢ End) → (o : Option A) (u : Option B) → NotEnd (with_both f o u)
+NotEnd-both f not (Some a) (Some b) = not a b
+NotEnd-both f not (Some a) None = tt
+NotEnd-both f not None (Some b) = tt
+NotEnd-both f not None None = tt
+
+NotEnd-two : (keyword number : List ℕ) → NotEnd (event_of_two keyword number)
+NotEnd-two keyword number =
+    NotEnd-cond (bytes_eq keyword (codes "gone")) _ _ (NotEnd-map ClientGone (λ a e. cc) (session_of number))
+    (NotEnd-cond (bytes_eq keyword (codes "lost")) _ _ (NotEnd-map LinkGone (λ a e. cc) (link_of number)) tt)
+
+NotEnd-begin : (settings : TraceSettings) (number word : List ℕ) → NotEnd (begin_of settings number word)
+NotEnd-begin settings number word =
+    NotEnd-cond settings.plain _ None (NotEnd-both Begin (λ a b e. cc) (session_of number) (server_of settings.servers word)) tt
+
+NotEnd-three : (settings : TraceSettings) (keyword number word : List ℕ) → NotEnd (event_of_three settings keyword number word)
+NotEnd-three settings keyword number word =
+    NotEnd-cond (bytes_eq keyword (codes "begin")) _ _ (NotEnd-begin settings number word)
+    (NotEnd-cond (bytes_eq keyword (codes "client")) _ _ (NotEnd-both ClientBytes (λ a b e. cc) (session_of number) (bytes_of word))
+    (NotEnd-cond (bytes_eq keyword (codes "link")) _ _ (NotEnd-both LinkBytes (λ a b e. cc) (link_of number) (bytes_of word)) tt))
+
+NotEnd-event : (settings : TraceSettings) (words : List (List ℕ)) → NotEnd (event_of settings words)
+NotEnd-event settings [] = tt
+NotEnd-event settings (a ∷ []) = tt
+NotEnd-event settings (a ∷ b ∷ []) = NotEnd-two a b
+NotEnd-event settings (a ∷ b ∷ c ∷ []) = NotEnd-three settings a b c
+NotEnd-event settings (a ∷ b ∷ c ∷ d ∷ words) = tt
+
+said-not_end : (o : Option Event) → NotEnd o → said_or_bad o ≢ Says End
+said-not_end None not is = cc
+said-not_end (Some event) not is = not cc
+
+cond-not_end : (b : Bool) (m n : EventLine) → m ≢ Says End → n ≢ Says End → cond b m n ≢ Says End
+cond-not_end true m n p q = p
+cond-not_end false m n p q = q
+
+meaning-not_end : (settings : TraceSettings) (line : List ℕ) → meaning_of settings line ≢ Says End
+meaning-not_end settings [] = λ is. cc
+meaning-not_end settings (byte ∷ line) =
+    cond-not_end _ Silent (said_or_bad (event_of settings (words_of (byte ∷ line)))) (λ e. cc) (said-not_end _ (NotEnd-event settings (words_of (byte ∷ line))))
+
+in_order-not_end : (begun : ℕ) (meaning : EventLine) → meaning ≢ Says End → in_order begun meaning ≢ Says End
+in_order-not_end begun Silent not = not
+in_order-not_end begun Bad not = not
+in_order-not_end begun (Says (Begin session server)) not =
+    cond-not_end _ (Says (Begin session server)) Bad not (λ e. cc)
+in_order-not_end begun (Says (ClientBytes session bytes)) not = not
+in_order-not_end begun (Says (ClientGone session)) not = not
+in_order-not_end begun (Says (LinkBytes link bytes)) not = not
+in_order-not_end begun (Says (LinkGone link)) not = not
+in_order-not_end begun (Says End) not = not
+
+pub event-not_end : (settings : TraceSettings) (begun : ℕ) (line : List ℕ) (event : Event) → Says event ≡ in_order begun (meaning_of settings line) → event ≢ End
+event-not_end settings begun line event says end =
+    in_order-not_end begun (meaning_of settings line) (meaning-not_end settings line) (sym says ∙ ap Says end)
+
+-- an event that isn't the end comes next where the script says it
+pub next-event : (event : Event) (bad : Option ℕ) (before behind : Script) → event ≢ End → before ≡ told_before event behind → bad ≡ None → IsNext event bad before behind
+next-event (Begin session server) bad before behind not told none = (told, none)
+next-event (ClientBytes session bytes) bad before behind not told none = (told, none)
+next-event (ClientGone session) bad before behind not told none = (told, none)
+next-event (LinkBytes link bytes) bad before behind not told none = (told, none)
+next-event (LinkGone link) bad before behind not told none = (told, none)
+next-event End bad before behind not told none = absurd (not refl)
+
+pub count-event : (event : Event) → event ≢ End → count_of event ≡ 1
+count-event (Begin session server) not = refl
+count-event (ClientBytes session bytes) not = refl
+count-event (ClientGone session) not = refl
+count-event (LinkBytes link bytes) not = refl
+count-event (LinkGone link) not = refl
+count-event End not = absurd (not refl)
+
+pub meaning_at-in_order : (settings : TraceSettings) (number begun : ℕ) (line : List ℕ) → length line ≤ MAX_LINE → number ≢ LAST_LINE → meaning_at settings number begun line ≡ in_order begun (meaning_of settings line)
+meaning_at-in_order settings number begun line short not_last = grind (arith, nat_tests)
+
+-- the script where its first line says an event, and the place behind it
+pub script_at-says : (place next : Place) (line : List ℕ) (lines : List (List ℕ)) (event : Event) → place.bad_line ≡ None → meaning_at place.settings place.number place.begun line ≡ Says event → next.bad_line ≡ None → next.number ≡ place.number + 1 → next.begun ≡ begun_after place.begun (Says event) → next.settings ≡ place.settings → script_at place (line ∷ lines) ≡ told_before event (script_at next lines)
+script_at-says place next line lines event going says still number begun same = rw (going, says, still, number, begun, same)

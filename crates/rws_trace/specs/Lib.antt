@@ -1,0 +1,9 @@
+pub mod Counting
+pub mod EventLine
+pub mod Gathering
+pub mod Lines
+pub mod Printing
+pub mod Reader
+pub mod Script
+pub mod ScriptBoards
+pub mod ScriptState

@@ -1,0 +1,229 @@
+//! One line of a trace, read: its words, and the event that they say.
+ghost use Rattle.std.specs.Prelude.{◌≡◌, ◌∷◌, [], ◌-◌, ◌^◌, ◌<◌, ◌≤◌, IfOk, IfSome, MatchOption};
+ghost use Rattle.std.specs.Char.{is_ascii_digit};
+ghost use Rattle.std.specs.List.{list_all};
+ghost use Rattle.rws_trace.specs.EventLine.{words_of, is_number, has_leading_zero, number_within, session_of, link_of, server_of, bytes_of, with_both, begin_of, event_of_two, event_of_three, event_of, meaning_of};
+ghost use Rattle.rws_board.specs.declared.event.Event.TheVariants.{ClientBytes, LinkBytes};
+
+use crate::bytes::place_of;
+use crate::settings::TraceSettings;
+use hex::FromHexError;
+use rws_board::Event;
+use rws_wire::Text;
+use std::alloc::{AllocError, Global};
+use std::str;
+
+/// The longest line of a trace, in bytes without its line feed.
+pub const MAX_LINE: usize = 1_048_576;
+
+/// The number of the line at which reading stops, whatever the line says.
+pub const LAST_LINE: u64 = 8_589_934_592;
+
+/// What a line says.
+#[derive(Drop)]
+pub enum EventLine {
+    /// Nothing: the line is empty or a comment.
+    Silent,
+    Says(Event),
+    /// What no line may say.
+    Bad,
+}
+
+/// What a line says by itself.
+pub(crate) fn read_line(
+    alloc: Global,
+    settings: TraceSettings,
+    line: &[u8],
+) -> Result<EventLine, AllocError>
+    ensures { IfOk result (λ meaning. meaning ≡ meaning_of settings line.now) }
+{
+    match line {
+        [] | [b'#', ..] => Ok(EventLine::Silent),
+        _ => match read_event(alloc, settings, line)? {
+            Some(event) => Ok(EventLine::Says(event)),
+            None => Ok(EventLine::Bad),
+        },
+    }
+}
+
+// The event that a line's words say.
+fn read_event(
+    alloc: Global,
+    settings: TraceSettings,
+    line: &[u8],
+) -> Result<Option<Event>, AllocError>
+    ensures { IfOk result (λ event. event ≡ event_of settings (words_of line.now)) }
+{
+    let Some((keyword, rest)) = split_word(line) else {
+        return Ok(None);
+    };
+    let Some((number, word)) = split_word(rest) else {
+        return Ok(read_two(keyword, rest));
+    };
+    match split_word(word) {
+        Some(_) => Ok(None),
+        None => read_three(alloc, settings, keyword, number, word),
+    }
+}
+
+// The first word, and what is behind the space that ends it.
+fn split_word(text: &[u8]) -> Option<(&[u8], &[u8])>
+    ensures { MatchOption result (words_of text.now ≡ text.now ∷ []) (λ parts. words_of text.now ≡ parts.0.now ∷ words_of parts.1.now) }
+{
+    match place_of(b' ', text) {
+        None => None,
+        Some(end) => Some((&text[..end], &text[end + 1..])),
+    }
+}
+
+// The event of a line of two words.
+fn read_two(keyword: &[u8], number: &[u8]) -> Option<Event>
+    ensures { result ≡ event_of_two keyword.now number.now }
+{
+    if keyword == b"gone".as_slice() {
+        return read_session(number).map(|session| Event::ClientGone { session });
+    }
+    if keyword == b"lost".as_slice() {
+        return read_link(number).map(|link| Event::LinkGone { link });
+    }
+    None
+}
+
+// The event of a line of three words.
+fn read_three(
+    alloc: Global,
+    settings: TraceSettings,
+    keyword: &[u8],
+    number: &[u8],
+    word: &[u8],
+) -> Result<Option<Event>, AllocError>
+    ensures { IfOk result (λ event. event ≡ event_of_three settings keyword.now number.now word.now) }
+{
+    if keyword == b"begin".as_slice() {
+        return Ok(read_begin(settings, number, word));
+    }
+    if keyword == b"client".as_slice() {
+        return read_client_bytes(alloc, number, word);
+    }
+    if keyword == b"link".as_slice() {
+        return read_link_bytes(alloc, number, word);
+    }
+    Ok(None)
+}
+
+// A session that begins on one of the settings' servers.
+fn read_begin(settings: TraceSettings, number: &[u8], word: &[u8]) -> Option<Event>
+    ensures { result ≡ begin_of settings number.now word.now }
+{
+    if !settings.plain {
+        return None;
+    }
+    let session = read_session(number)?;
+    let server = read_server(settings.servers, word)?;
+    Some(Event::Begin { session, server })
+}
+
+// Bytes from a client.
+fn read_client_bytes(alloc: Global, number: &[u8], word: &[u8]) -> Result<Option<Event>, AllocError>
+    ensures { IfOk result (λ event. event ≡ with_both ClientBytes (session_of number.now) (bytes_of word.now)) }
+{
+    let Some(session) = read_session(number) else {
+        return Ok(None);
+    };
+    match read_bytes(alloc, word)? {
+        Some(bytes) => Ok(Some(Event::ClientBytes { session, bytes })),
+        None => Ok(None),
+    }
+}
+
+// Bytes from a server.
+fn read_link_bytes(alloc: Global, number: &[u8], word: &[u8]) -> Result<Option<Event>, AllocError>
+    ensures { IfOk result (λ event. event ≡ with_both LinkBytes (link_of number.now) (bytes_of word.now)) }
+{
+    let Some(link) = read_link(number) else {
+        return Ok(None);
+    };
+    match read_bytes(alloc, word)? {
+        Some(bytes) => Ok(Some(Event::LinkBytes { link, bytes })),
+        None => Ok(None),
+    }
+}
+
+// The number of a session, from 1.
+fn read_session(word: &[u8]) -> Option<u32>
+    ensures { result ≡ session_of word.now }
+{
+    let number = read_number(word, 1, u64::from(u32::MAX))?;
+    Some(number as u32)
+}
+
+// The number of a link, from 1.
+fn read_link(word: &[u8]) -> Option<u64>
+    ensures { result ≡ link_of word.now }
+{
+    read_number(word, 1, u64::MAX)
+}
+
+// The index of one of so many servers.
+fn read_server(servers: u8, word: &[u8]) -> Option<u8>
+    ensures { result ≡ server_of servers word.now }
+{
+    let number = read_number(word, 0, u64::from(servers.saturating_sub(1)))?;
+    Some(number as u8)
+}
+
+// The number that a word writes, between two bounds.
+fn read_number(word: &[u8], least: u64, most: u64) -> Option<u64>
+    ensures value { result ≡ number_within least most word.now }
+    ensures within { IfSome result (λ number. (least ≤ number) × (number ≤ most)) }
+{
+    let number = read_digits(word)?;
+    if least <= number && number <= most {
+        Some(number)
+    } else {
+        None
+    }
+}
+
+// The number that digits write, where it is a `u64`.
+fn read_digits(word: &[u8]) -> Option<u64>
+    ensures { result ≡ number_within 0 (2 ^ 64 - 1) word.now }
+{
+    if !is_number(word) {
+        return None;
+    }
+    match str::from_utf8(word) {
+        Ok(digits) => digits.parse().ok(),
+        Err(_) => None,
+    }
+}
+
+// Whether a word is digits, with no zero before others.
+fn is_number(word: &[u8]) -> bool
+    ensures { result ≡ is_number word.now }
+{
+    match word {
+        [] | [b'0', _, ..] => false,
+        _ => is_digits(word),
+    }
+}
+
+fn is_digits(word: &[u8]) -> bool
+    ensures { result ≡ list_all is_ascii_digit word.now }
+{
+    word.iter().all(|byte| byte.is_ascii_digit())
+}
+
+// The bytes that a word writes in hex, one or more.
+fn read_bytes(alloc: Global, word: &[u8]) -> Result<Option<Text>, AllocError>
+    ensures { IfOk result (λ bytes. bytes ≡ bytes_of word.now) }
+{
+    if word.is_empty() {
+        return Ok(None);
+    }
+    match hex::decode(alloc, word) {
+        Ok(bytes) => Ok(Some(Text::new(bytes))),
+        Err(FromHexError::OutOfMemory) => Err(AllocError),
+        Err(_) => Ok(None),
+    }
+}

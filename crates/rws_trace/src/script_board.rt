@@ -1,0 +1,135 @@
+//! A board over a trace. It holds its reader, its input and its output, and nothing of what it did: contracts relate
+//! what is left of the input and what the output has taken.
+ghost use Rattle.std.specs.Prelude.{◌≡◌, ◌≤◌, ◌∷◌, [], None, IfOk, IsErrOf, MatchResult};
+ghost use Rattle.rws_board.specs.Boards.{given, standing_after};
+ghost use Rattle.rws_board.specs.Boards.Standing.{Going, Failing};
+ghost use Rattle.rws_board.specs.Faults.{Rises};
+ghost use Rattle.rws_board.specs.declared.interaction.Interaction.TheVariants.{Took};
+ghost use Rattle.rws_trace.specs.Reader.{fresh};
+ghost use Rattle.rws_trace.specs.ScriptState.{Did};
+
+use crate::event_reader::EventReader;
+use crate::print::action_line;
+use crate::read_error::ReadError;
+use crate::settings::TraceSettings;
+use crate::side::Side;
+use rws_board::{Action, Board, BoardFault, Event, Failed, Sink, Source};
+use std::alloc::{AllocError, Global};
+
+/// A board that reads the lines of a trace as its events and prints its actions as lines, each in one put and at once.
+#[derive(Drop)]
+pub struct ScriptBoard<'a, I: Source, O: Sink> {
+    alloc: Global,
+    reader: EventReader,
+    input: &'a mut I,
+    out: &'a mut O,
+    failed: Option<Side>,
+}
+
+impl<'a, I: Source, O: Sink> ScriptBoard<'a, I, O> {
+    /// A board at the start of its trace. `servers` is the number of the settings' servers, and `plain` says that their
+    /// first account has an empty password; without that no session may begin.
+    pub fn new(
+        alloc: Global,
+        input: &'a mut I,
+        out: &'a mut O,
+        servers: u8,
+        plain: bool,
+    ) -> Result<ScriptBoard<'a, I, O>, AllocError>
+        requires { (1 ≤ servers) × (servers ≤ 7) }
+        ensures input_lent { IfOk result (λ board. (board.input.ghost_name ≡ input.entry.ghost_name) × (board.input.now ≡ input.old)) }
+        ensures out_lent { IfOk result (λ board. (board.out.ghost_name ≡ out.entry.ghost_name) × (board.out.now ≡ out.old)) }
+        ensures starts { IfOk result (λ board. (board.reader ≡ fresh (record { servers = servers; plain = plain })) × (board.failed ≡ None)) }
+    {
+        let reader = EventReader::new(alloc, TraceSettings { servers, plain })?;
+        Ok(ScriptBoard {
+            alloc,
+            reader,
+            input,
+            out,
+            failed: None,
+        })
+    }
+
+    /// The side that failed, after a failed call.
+    pub fn failed(&self) -> Option<Side>
+        ensures { result ≡ self.now.failed }
+    {
+        self.failed
+    }
+
+    /// The number, from 1, of the bad line at which the trace stopped.
+    pub fn bad_line(&self) -> Option<u64>
+        ensures { result ≡ self.now.reader.place.bad_line }
+    {
+        self.reader.bad_line()
+    }
+
+    /// How many events were given, the end left out.
+    pub fn events(&self) -> u64
+        ensures { result ≡ self.now.reader.place.events }
+    {
+        self.reader.events()
+    }
+}
+
+impl<'a, I: Source, O: Sink> ScriptBoard<'a, I, O> {
+    // Reads the next event.
+    fn read(&mut self) -> Result<Event, BoardFault>
+        ensures did { MatchResult result
+            (λ event. Did I.left I.faults O.taken O.faults self.old self.new (given event) (standing_after event))
+            (λ fault. Did I.left I.faults O.taken O.faults self.old self.new [] (Failing fault)) }
+        ensures failed { IsErrOf result BoardFault.Failed → Rises (I.faults self.old.input.now) (I.faults self.new.input.now) }
+    {
+        match self.reader.next(&mut *self.input) {
+            Ok(event) => Ok(event),
+            Err(ReadError::Failed) => {
+                self.failed = Some(Side::Input);
+                Err(BoardFault::Failed)
+            }
+            Err(ReadError::OutOfMemory) => Err(BoardFault::OutOfMemory),
+        }
+    }
+
+    // Prints the line of an action.
+    fn print(&mut self, action: &Action) -> Result<(), BoardFault>
+        ensures did { MatchResult result
+            (λ _. Did I.left I.faults O.taken O.faults self.old self.new (Took action.now ∷ []) Going)
+            (λ fault. Did I.left I.faults O.taken O.faults self.old self.new (Took action.now ∷ []) (Failing fault)) }
+        ensures failed { IsErrOf result BoardFault.Failed → Rises (O.faults self.old.out.now) (O.faults self.new.out.now) }
+    {
+        let line = match action_line(self.alloc, action) {
+            Ok(line) => line,
+            Err(AllocError) => return Err(BoardFault::OutOfMemory),
+        };
+        match self.out.put(line.as_slice()) {
+            Ok(()) => Ok(()),
+            Err(Failed) => {
+                self.failed = Some(Side::Output);
+                Err(BoardFault::Failed)
+            }
+        }
+    }
+}
+
+impl<'a, I: Source, O: Sink> Board for ScriptBoard<'a, I, O> {
+    ghost use Rattle.rws_trace.specs.ScriptState.{Did};
+    ghost use Rattle.rws_trace.specs.ScriptBoards.{both_counts};
+
+    ghost did = { Did I.left I.faults O.taken O.faults };
+
+    ghost faults = { λ board. both_counts (I.faults board.input.now) (O.faults board.out.now) };
+
+    fn next(&mut self, _wait_ms: u64) -> Result<Event, BoardFault> {
+        self.read()
+    }
+
+    fn act(&mut self, action: Action) -> Result<(), BoardFault> {
+        self.print(&action)
+    }
+
+    ghost use Rattle.std.specs.Prelude.{refl};
+    ghost use Rattle.rws_trace.specs.ScriptState.{did_nothing};
+
+    ghost did_nothing = { λ board. record { input = refl; out = refl; did = did_nothing _ } };
+}

@@ -1,0 +1,127 @@
+//! What no contract says: that calls succeed with ample memory, and lines from outside.
+use super::*;
+use rws_board::{Action, CallList, Event, MemSource, ReadSource};
+use rws_wire::{CloseReason, Text};
+use std::alloc::Global;
+use std::io::{self, Read};
+use std::test::Fail;
+
+const THREE: TraceSettings = TraceSettings {
+    servers: 3,
+    plain: true,
+};
+
+// How many events these lines say, and which of them is bad, or 0.
+const TRACES: [(&[u8], u64, u64); 16] = [
+    (b"", 0, 0),
+    (b"\n\n# begin\nlost 1", 1, 0),
+    (
+        b"begin 2 0\nclient 2 0aFf\nlink 1 00\nlost 1\ngone 2\n",
+        5,
+        0,
+    ),
+    (b"begin 2 0\nbegin 4 1\nbegin 4 0\ngone 2\n", 2, 3),
+    (b"begin 1 0\njump\n", 1, 2),
+    (b"begin 0 0", 0, 1),
+    (b"begin 01 0", 0, 1),
+    (b"begin 1 3", 0, 1),
+    (b"begin 1  0", 0, 1),
+    (b"begin 1 0 ", 0, 1),
+    (b"gone 4294967296", 0, 1),
+    (b"gone +1", 0, 1),
+    (b"lost 18446744073709551616", 0, 1),
+    (b"client 1 0", 0, 1),
+    (b"client 1 0g", 0, 1),
+    (b"gone 1\r\n", 0, 1),
+];
+
+fn source(alloc: Global, text: &[u8], fails: &[u64]) -> Result<MemSource, Fail> {
+    let bytes = Text::from_slice(alloc, text)?;
+    Ok(MemSource::new(bytes, CallList::from_slice(alloc, fails)?))
+}
+
+// Reads up to the end, of few events.
+fn read_to_end(reader: &mut EventReader, input: &mut MemSource) -> Result<(), ReadError> {
+    for _ in 0..10 {
+        if reader.next(input)? == Event::End {
+            break;
+        }
+    }
+    Ok(())
+}
+
+#[test]
+fn traces_are_read(rt: HostRuntime) -> Result<(), Fail> {
+    let alloc = rt.alloc();
+    for (text, events, bad) in &TRACES {
+        let mut reader = EventReader::new(alloc, THREE)?;
+        read_to_end(&mut reader, &mut source(alloc, text, &[])?)?;
+        assert_eq!(rt; reader.events(), *events);
+        assert_eq!(rt; reader.bad_line().unwrap_or(0), *bad);
+    }
+    Ok(())
+}
+
+#[test]
+fn a_line_is_told_before_more_is_read(rt: HostRuntime) -> Result<(), Fail> {
+    let alloc = rt.alloc();
+    let mut input = source(alloc, b"gone 1\ngone 2\n", &[1])?;
+    let mut reader = EventReader::new(alloc, THREE)?;
+    assert_eq!(rt; reader.next(&mut input)?, Event::ClientGone { session: 1 });
+    assert_eq!(rt; reader.next(&mut input)?, Event::ClientGone { session: 2 });
+    assert_eq!(rt; reader.next(&mut input), Err(ReadError::Failed));
+    Ok(())
+}
+
+#[test]
+fn a_line_comes_in_two_pieces(rt: HostRuntime) -> Result<(), Fail> {
+    let mut input = ReadSource::new(b"lo".as_slice().chain(b"st 12".as_slice()));
+    let mut reader = EventReader::new(rt.alloc(), THREE)?;
+    assert_eq!(rt; reader.next(&mut input)?, Event::LinkGone { link: 12 });
+    assert_eq!(rt; reader.next(&mut input)?, Event::End);
+    Ok(())
+}
+
+#[derive(Drop)]
+struct BrokenReader;
+
+impl Read for BrokenReader {
+    fn read(&mut self, _buf: &mut [u8]) -> io::Result<usize> {
+        Err(io::Error::from(io::ErrorKind::Other))
+    }
+}
+
+#[test]
+fn an_error_is_no_end(rt: HostRuntime) -> Result<(), Fail> {
+    let mut reader = EventReader::new(rt.alloc(), THREE)?;
+    let mut input = ReadSource::new(BrokenReader);
+    assert_eq!(rt; reader.next(&mut input), Err(ReadError::Failed));
+    Ok(())
+}
+
+#[test]
+fn actions_print_lines(rt: HostRuntime) -> Result<(), Fail> {
+    let alloc = rt.alloc();
+    let bytes = Text::from_slice(alloc, &[0, 10, 255])?;
+    let sends = Action::ToClient { session: 1, bytes };
+    assert_eq!(rt;
+        action_line(alloc, &sends)?.as_slice(),
+        b"client 1 000aff\n".as_slice()
+    );
+    let reason = CloseReason::OutOfOrder { want: 0, got: 1 };
+    let closes = Action::Close { session: 1, reason };
+    assert_eq!(rt;
+        action_line(alloc, &closes)?.as_slice(),
+        b"close 1 out-of-order\n".as_slice()
+    );
+    Ok(())
+}
+
+#[test]
+fn last_lines_are_printed(rt: HostRuntime) -> Result<(), Fail> {
+    let alloc = rt.alloc();
+    assert_eq!(rt; end_line(alloc, 0)?.as_slice(), b"end 0\n".as_slice());
+    assert_eq!(rt; bad_line(alloc, 2)?.as_slice(), b"bad line 2\n".as_slice());
+    assert!(rt; usage_line().starts_with(b"usage: rwsplit trace SETTINGS | "));
+    Ok(())
+}
