@@ -2,7 +2,7 @@
 use Rattle.std.specs.Prelude.{◌≡◌, List, [], ◌∷◌, ◌++◌, ◌⊎◌, Result, Ok, Err, MatchResult, refl}
 use Rattle.std.proofs.Common.{sym, ◌∙◌, ap, subst, inl, inr, append_assoc, append-nil}
 use Rattle.rws_board.specs.Boards.{ListBoardState, ListDid, Standing, IsAllButLast, events_given, actions_taken, given, standing_after}
-use Rattle.rws_board.specs.Boards.Standing.{Going, Ended, Failing}
+use Rattle.rws_board.specs.Boards.Standing.{Going, Ended, NextFailed, ActFailed}
 use Rattle.rws_board.specs.declared.action.Action.{Action}
 use Rattle.rws_board.specs.declared.board_fault.BoardFault.{BoardFault}
 use Rattle.rws_board.specs.declared.event.Event.{Event}
@@ -36,9 +36,14 @@ list_did_more a b c xs ys Ended first next = (
   ahead_more a b c xs ys first next.1 next.2,
   next.3,
 )
-list_did_more a b c xs ys (Failing fault) first next = made next.1
+list_did_more a b c xs ys (NextFailed fault) first next = (
+  done_more a b c xs ys first ys next.0,
+  next.1,
+  ahead_more a b c xs ys first next.1 next.2,
+)
+list_did_more a b c xs ys (ActFailed fault) first next = made next.1
   where
-    made : (next.0 ≡ ys) ⊎ IsAllButLast next.0 ys → ListDid a c (xs ++ ys) (Failing fault)
+    made : (next.0 ≡ ys) ⊎ IsAllButLast next.0 ys → ListDid a c (xs ++ ys) (ActFailed fault)
     made (inl all) = (xs ++ next.0, inl (ap (λ zs. xs ++ zs) all), done_more a b c xs ys first next.0 next.2, next.3, ahead_more a b c xs ys first next.3 next.4)
     made (inr but) = (
       xs ++ next.0,
@@ -50,15 +55,15 @@ list_did_more a b c xs ys (Failing fault) first next = made next.1
 
 -- a call that gave an event
 pub then_gave : (start old new : ListBoardState) (before : List Interaction) (result : Result Event BoardFault)
-    → MatchResult result (λ event. ListDid old new (given event) (standing_after event)) (λ fault. ListDid old new [] (Failing fault)) → ListDid start old before Going
-    → MatchResult result (λ event. ListDid start new (before ++ given event) (standing_after event)) (λ fault. ListDid start new before (Failing fault))
+    → MatchResult result (λ event. ListDid old new (given event) (standing_after event)) (λ fault. ListDid old new [] (NextFailed fault)) → ListDid start old before Going
+    → MatchResult result (λ event. ListDid start new (before ++ given event) (standing_after event)) (λ fault. ListDid start new before (NextFailed fault))
 then_gave start old new before (Ok event) did first = list_did_more start old new before (given event) (standing_after event) first did
 then_gave start old new before (Err fault) did first =
-    subst (λ (interactions : List Interaction). ListDid start new interactions (Failing fault)) (append-nil before) (list_did_more start old new before [] (Failing fault) first did)
+    subst (λ (interactions : List Interaction). ListDid start new interactions (NextFailed fault)) (append-nil before) (list_did_more start old new before [] (NextFailed fault) first did)
 
 -- a call that took an action
 pub then_took : (start old new : ListBoardState) (before : List Interaction) (action : Action) (result : Result (Unit {0}) BoardFault)
-    → MatchResult result (λ _. ListDid old new (Took action ∷ []) Going) (λ fault. ListDid old new (Took action ∷ []) (Failing fault)) → ListDid start old before Going
-    → MatchResult result (λ _. ListDid start new (before ++ Took action ∷ []) Going) (λ fault. ListDid start new (before ++ Took action ∷ []) (Failing fault))
+    → MatchResult result (λ _. ListDid old new (Took action ∷ []) Going) (λ fault. ListDid old new (Took action ∷ []) (ActFailed fault)) → ListDid start old before Going
+    → MatchResult result (λ _. ListDid start new (before ++ Took action ∷ []) Going) (λ fault. ListDid start new (before ++ Took action ∷ []) (ActFailed fault))
 then_took start old new before action (Ok unit) did first = list_did_more start old new before (Took action ∷ []) Going first did
-then_took start old new before action (Err fault) did first = list_did_more start old new before (Took action ∷ []) (Failing fault) first did
+then_took start old new before action (Err fault) did first = list_did_more start old new before (Took action ∷ []) (ActFailed fault) first did

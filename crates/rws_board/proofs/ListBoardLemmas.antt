@@ -2,7 +2,7 @@
 use Rattle.std.proofs.Common.{◌≡◌, ◌≢◌, ◌↔◌, [], ◌∷◌, ◌++◌, inl, inr, Result, Ok, Err, MatchResult, IsErrOf, refl, sym, ◌∙◌, ap, subst, append-nil}
 use Rattle.std.specs.Result.{IsErrAnd}
 use Rattle.rws_board.specs.Boards.{ListBoardState, ListDid, given, standing_after}
-use Rattle.rws_board.specs.Boards.Standing.{Failing}
+use Rattle.rws_board.specs.Boards.Standing.{NextFailed, ActFailed}
 use Rattle.rws_board.specs.declared.action.Action.{Action}
 use Rattle.rws_board.specs.declared.board_fault.BoardFault.{BoardFault}
 use Rattle.rws_board.specs.declared.event.Event.{Event}
@@ -19,10 +19,10 @@ pub planned_failure : {T : Type 0} (r : Result T BoardFault) (fault : BoardFault
 planned_failure (Ok x) fault planned is holds = absurd is
 planned_failure (Err x) fault planned is holds = (λ failed. holds, λ planned. ap Err is)
 
-pub not_given : (old new : ListBoardState) (fault : BoardFault) → new.done ≡ old.done → ListDid old new [] (Failing fault)
-not_given old new fault same = ([], inl refl, same ∙ sym (append-nil old.done), old.ahead, refl)
+pub not_given : (old new : ListBoardState) (fault : BoardFault) → new.done ≡ old.done → ListDid old new [] (NextFailed fault)
+not_given old new fault same = (same ∙ sym (append-nil old.done), old.ahead, refl)
 
-pub not_taken : (old new : ListBoardState) (action : Action) (fault : BoardFault) → new.done ≡ old.done → ListDid old new (Took action ∷ []) (Failing fault)
+pub not_taken : (old new : ListBoardState) (action : Action) (fault : BoardFault) → new.done ≡ old.done → ListDid old new (Took action ∷ []) (ActFailed fault)
 not_taken old new action fault same = ([], inr (record { action = action; parted = refl }), same ∙ sym (append-nil old.done), old.ahead, refl)
 
 pub gave : (old new : ListBoardState) (event : Event) → event ≢ End → old.ahead ≡ event ∷ new.ahead → new.done ≡ old.done ++ Gave event ∷ [] → ListDid old new (given event) (standing_after event)

@@ -7,11 +7,13 @@ use Rattle.rws_board.specs.declared.event.Event.TheVariants.{End}
 use Rattle.rws_board.specs.declared.interaction.Interaction.{Interaction}
 use Rattle.rws_board.specs.declared.interaction.Interaction.TheVariants.{Gave, Took}
 
--- how a board stands: it may be called, it gave the end, or its last call failed
+-- how a board stands: it may be called, it gave the end, or its last call failed, which asked for an event or was to take
+-- an action
 pub data Standing : Type 0 where
   Going : Standing
   Ended : Standing
-  Failing : BoardFault → Standing
+  NextFailed : BoardFault → Standing
+  ActFailed : BoardFault → Standing
 
 -- what an event adds to the list of what the board did: the end nothing
 abbrev pub given : Event → List Interaction
@@ -60,6 +62,8 @@ ListDid old new interactions Going =
     (new.done ≡ old.done ++ interactions) × (old.ahead ≡ events_given interactions ++ new.ahead)
 ListDid old new interactions Ended =
     (new.done ≡ old.done ++ interactions) × (ahead : List Event) × (old.ahead ≡ events_given interactions ++ ahead) × IsOver ahead
-ListDid old new interactions (Failing fault) =
+ListDid old new interactions (NextFailed fault) =
+    (new.done ≡ old.done ++ interactions) × (ahead : List Event) × (old.ahead ≡ events_given interactions ++ ahead)
+ListDid old new interactions (ActFailed fault) =
     (done : List Interaction) × ((done ≡ interactions) ⊎ IsAllButLast done interactions) × (new.done ≡ old.done ++ done)
     × (ahead : List Event) × (old.ahead ≡ events_given interactions ++ ahead)

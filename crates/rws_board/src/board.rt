@@ -4,7 +4,7 @@
 //! call says what it adds to what the board did before: so a caller may go on for any time and still say all of it.
 ghost use Rattle.std.specs.Prelude.{ℕ, ◌≤◌, List, [], ◌∷◌, ◌++◌, MatchResult, IsErrOf};
 ghost use Rattle.rws_board.specs.Boards.{Standing, given, standing_after};
-ghost use Rattle.rws_board.specs.Boards.Standing.{Going, Failing};
+ghost use Rattle.rws_board.specs.Boards.Standing.{Going, NextFailed, ActFailed};
 ghost use Rattle.rws_board.specs.Faults.{Rises};
 ghost use Rattle.rws_board.specs.declared.interaction.Interaction.{Interaction};
 ghost use Rattle.rws_board.specs.declared.interaction.Interaction.TheVariants.{Took};
@@ -15,7 +15,7 @@ use crate::{Action, BoardFault, Event};
 /// called again.
 pub trait Board {
     /// `did old new interactions standing`: between these two states the board did this, oldest first, and stands so
-    /// now. The end isn't in the list: it is `Ended`. Where the board is `Failing`, the last action of the list may
+    /// now. The end isn't in the list: it is `Ended`. Where the board is `ActFailed`, the last action of the list may
     /// have been taken in part, or not at all. A board of which nothing is known did anything.
     ghost did: { Self → Self → List Interaction → Standing → Type 0 };
 
@@ -27,7 +27,7 @@ pub trait Board {
     fn next(&mut self, wait_ms: u64) -> Result<Event, BoardFault>
         ensures did { (start : Self) (before : List Interaction) → did start self.old before Going → MatchResult result
             (λ event. did start self.new (before ++ given event) (standing_after event))
-            (λ fault. did start self.new before (Failing fault)) }
+            (λ fault. did start self.new before (NextFailed fault)) }
         ensures counts { faults self.old ≤ faults self.new }
         ensures failed { IsErrOf result BoardFault.Failed → Rises (faults self.old) (faults self.new) };
 
@@ -35,7 +35,7 @@ pub trait Board {
     fn act(&mut self, action: Action) -> Result<(), BoardFault>
         ensures did { (start : Self) (before : List Interaction) → did start self.old before Going → MatchResult result
             (λ _. did start self.new (before ++ Took action ∷ []) Going)
-            (λ fault. did start self.new (before ++ Took action ∷ []) (Failing fault)) }
+            (λ fault. did start self.new (before ++ Took action ∷ []) (ActFailed fault)) }
         ensures counts { faults self.old ≤ faults self.new }
         ensures failed { IsErrOf result BoardFault.Failed → Rises (faults self.old) (faults self.new) };
 

@@ -1,7 +1,7 @@
 //! A board in memory. It holds the events that it is still to give, and all that it did.
 ghost use Rattle.std.specs.Prelude.{List, ◌≡◌, ◌≤◌, ◌↔◌, ◌∷◌, [], ◌++◌, ◌⊎◌, Contains, IfOk, IsErr, IsErrOf, MatchResult, OnOk, OnErr};
 ghost use Rattle.rws_board.specs.Boards.{ListBoardState, ListDid, given, standing_after};
-ghost use Rattle.rws_board.specs.Boards.Standing.{Going, Failing};
+ghost use Rattle.rws_board.specs.Boards.Standing.{Going, NextFailed, ActFailed};
 ghost use Rattle.rws_board.specs.Faults.{Rises, one_more};
 ghost use Rattle.rws_board.specs.declared.interaction.Interaction.{Interaction};
 ghost use Rattle.rws_board.specs.declared.interaction.Interaction.TheVariants.{Gave, Took};
@@ -54,7 +54,7 @@ impl ListBoard {
     fn give(&mut self) -> Result<Event, BoardFault>
         ensures did { MatchResult result
             (λ event. ListDid self.old self.new (given event) (standing_after event))
-            (λ fault. ListDid self.old self.new [] (Failing fault)) }
+            (λ fault. ListDid self.old self.new [] (NextFailed fault)) }
         ensures counts { self.old.faults ≤ self.new.faults }
         ensures failed { IsErrOf result BoardFault.Failed → Rises self.old.faults self.new.faults }
         ensures planned { IsErrOf result BoardFault.Failed ↔ Contains self.old.fails self.old.calls }
@@ -73,7 +73,7 @@ impl ListBoard {
     fn take(&mut self, action: Action) -> Result<(), BoardFault>
         ensures did { MatchResult result
             (λ _. ListDid self.old self.new (Took action ∷ []) Going)
-            (λ fault. ListDid self.old self.new (Took action ∷ []) (Failing fault)) }
+            (λ fault. ListDid self.old self.new (Took action ∷ []) (ActFailed fault)) }
         ensures counts { self.old.faults ≤ self.new.faults }
         ensures failed { IsErrOf result BoardFault.Failed → Rises self.old.faults self.new.faults }
         ensures planned { IsErrOf result BoardFault.Failed ↔ Contains self.old.fails self.old.calls }
@@ -96,7 +96,7 @@ impl Board for ListBoard {
     fn next(&mut self, _wait_ms: u64) -> Result<Event, BoardFault>
         ensures did { (start : ListBoardState) (before : List Interaction) → ListDid start self.old before Going → MatchResult result
             (λ event. ListDid start self.new (before ++ given event) (standing_after event))
-            (λ fault. ListDid start self.new before (Failing fault)) }
+            (λ fault. ListDid start self.new before (NextFailed fault)) }
         ensures counts { self.old.faults ≤ self.new.faults }
         ensures failed { IsErrOf result BoardFault.Failed → Rises self.old.faults self.new.faults }
         ensures planned { IsErrOf result BoardFault.Failed ↔ Contains self.old.fails self.old.calls }
@@ -110,7 +110,7 @@ impl Board for ListBoard {
     fn act(&mut self, action: Action) -> Result<(), BoardFault>
         ensures did { (start : ListBoardState) (before : List Interaction) → ListDid start self.old before Going → MatchResult result
             (λ _. ListDid start self.new (before ++ Took action ∷ []) Going)
-            (λ fault. ListDid start self.new (before ++ Took action ∷ []) (Failing fault)) }
+            (λ fault. ListDid start self.new (before ++ Took action ∷ []) (ActFailed fault)) }
         ensures counts { self.old.faults ≤ self.new.faults }
         ensures failed { IsErrOf result BoardFault.Failed → Rises self.old.faults self.new.faults }
         ensures planned { IsErrOf result BoardFault.Failed ↔ Contains self.old.fails self.old.calls }

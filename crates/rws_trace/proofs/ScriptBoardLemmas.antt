@@ -4,7 +4,7 @@ use Rattle.std.specs.Io.KnownBytes.{Appends}
 use Rattle.std.proofs.Common.{sym, ◌∙◌, ap, subst, arith, append_assoc, append-nil, length-append}
 use Rattle.std.proofs.KnownBytes.{Appends-trans}
 use Rattle.rws_board.specs.Boards.{Standing, events_given, actions_taken, given, standing_after}
-use Rattle.rws_board.specs.Boards.Standing.{Going, Ended, Failing}
+use Rattle.rws_board.specs.Boards.Standing.{Going, Ended, NextFailed, ActFailed}
 use Rattle.rws_board.proofs.JoinLemmas.{events_given-append, actions_taken-append}
 use Rattle.rws_board.specs.Put.{AppendsFront}
 use Rattle.rws_board.specs.declared.action.Action.{Action}
@@ -17,7 +17,7 @@ use Rattle.rws_trace.specs.Lines.{lines_of}
 use Rattle.rws_trace.specs.Printing.{action_text, text_of}
 use Rattle.rws_trace.specs.Reader.{Ahead, ReaderState, Reads, ReadsPart, ReadsOut, script_at}
 use Rattle.rws_trace.specs.Script.{Script, all_before, ended}
-use Rattle.rws_trace.specs.ScriptBoards.{ScriptBoardState, AheadOf, FirstEvents, Counts, Goes, Ends, InputFails, IsCutShort, ScriptDid, SideFails, StandsSo}
+use Rattle.rws_trace.specs.ScriptBoards.{ScriptBoardState, AheadOf, FirstEvents, Counts, Goes, Ends, InputFails, IsCutShort, ScriptDid, StandsSo}
 use Rattle.rws_trace.specs.ScriptState.{Did}
 use Rattle.rws_trace.specs.declared.place.Place.{Place}
 use Rattle.rws_trace.specs.declared.script_board.ScriptBoard.{ScriptBoard}
@@ -99,16 +99,14 @@ module _ (a b c : ScriptBoardState) (xs ys : List Interaction) where
     printed = front_more first.printed next.printed;
   }
 
-  side_more : (side : Option Side) → Counts a b xs → Goes a b xs → SideFails side b c ys → SideFails side a c (xs ++ ys)
-  side_more (Some Input) counts first next = input_more counts first next
-  side_more (Some Output) counts first next = ((let one = counts.output in let two = next.0 in omega arith), cut_more first next.1)
-  side_more None counts first next = absurd next
-
   stands_more : (standing : Standing) → Counts a b xs → Goes a b xs → StandsSo b c ys standing → StandsSo a c (xs ++ ys) standing
   stands_more Going counts first next = goes_more first next
   stands_more Ended counts first next = ends_more first next
-  stands_more (Failing faults.Failed) counts first next = side_more c.failed counts first next
-  stands_more (Failing faults.OutOfMemory) counts first next = cut_more first next
+  stands_more (NextFailed faults.Failed) counts first next = (next.0, input_more counts first next.1)
+  stands_more (NextFailed faults.OutOfMemory) counts first next = cut_more first next
+  stands_more (ActFailed faults.Failed) counts first next =
+      (next.0, (let one = counts.output in let two = next.1 in omega arith), cut_more first next.2)
+  stands_more (ActFailed faults.OutOfMemory) counts first next = cut_more first next
 
 pub script_did_more : (a b c : ScriptBoardState) (xs ys : List Interaction) (standing : Standing) → ScriptDid a b xs Going → ScriptDid b c ys standing → ScriptDid a c (xs ++ ys) standing
 script_did_more a b c xs ys standing first next = record {
@@ -127,17 +125,17 @@ module _ {I O : Type 0} (left : I → Option (List ℕ)) (input_faults : I → �
 
   -- a call that gave an event
   pub then_gave : (before : List Interaction) (result : Result Event BoardFault)
-      → MatchResult result (λ event. Did left input_faults taken output_faults old new (given event) (standing_after event)) (λ fault. Did left input_faults taken output_faults old new [] (Failing fault))
+      → MatchResult result (λ event. Did left input_faults taken output_faults old new (given event) (standing_after event)) (λ fault. Did left input_faults taken output_faults old new [] (NextFailed fault))
       → Did left input_faults taken output_faults start old before Going
-      → MatchResult result (λ event. Did left input_faults taken output_faults start new (before ++ given event) (standing_after event)) (λ fault. Did left input_faults taken output_faults start new before (Failing fault))
+      → MatchResult result (λ event. Did left input_faults taken output_faults start new (before ++ given event) (standing_after event)) (λ fault. Did left input_faults taken output_faults start new before (NextFailed fault))
   then_gave before (Ok event) did first = did_more before (given event) (standing_after event) first did
   then_gave before (Err fault) did first =
-      subst (λ (interactions : List Interaction). Did left input_faults taken output_faults start new interactions (Failing fault)) (append-nil before) (did_more before [] (Failing fault) first did)
+      subst (λ (interactions : List Interaction). Did left input_faults taken output_faults start new interactions (NextFailed fault)) (append-nil before) (did_more before [] (NextFailed fault) first did)
 
   -- a call that took an action
   pub then_took : (before : List Interaction) (action : Action) (result : Result (Unit {0}) BoardFault)
-      → MatchResult result (λ _. Did left input_faults taken output_faults old new (Took action ∷ []) Going) (λ fault. Did left input_faults taken output_faults old new (Took action ∷ []) (Failing fault))
+      → MatchResult result (λ _. Did left input_faults taken output_faults old new (Took action ∷ []) Going) (λ fault. Did left input_faults taken output_faults old new (Took action ∷ []) (ActFailed fault))
       → Did left input_faults taken output_faults start old before Going
-      → MatchResult result (λ _. Did left input_faults taken output_faults start new (before ++ Took action ∷ []) Going) (λ fault. Did left input_faults taken output_faults start new (before ++ Took action ∷ []) (Failing fault))
+      → MatchResult result (λ _. Did left input_faults taken output_faults start new (before ++ Took action ∷ []) Going) (λ fault. Did left input_faults taken output_faults start new (before ++ Took action ∷ []) (ActFailed fault))
   then_took before action (Ok unit) did first = did_more before (Took action ∷ []) Going first did
-  then_took before action (Err fault) did first = did_more before (Took action ∷ []) (Failing fault) first did
+  then_took before action (Err fault) did first = did_more before (Took action ∷ []) (ActFailed fault) first did

@@ -3,7 +3,7 @@ use Rattle.std.proofs.Common.{◌≡◌, ℕ, ◌+◌, ◌≤◌, List, [], ◌�
 use Rattle.std.proofs.KnownBytes.{Appends-nil}
 use Rattle.std.specs.Io.KnownBytes.{Appends, IsAtEnd}
 use Rattle.rws_board.specs.Boards.{given, standing_after}
-use Rattle.rws_board.specs.Boards.Standing.{Going, Failing}
+use Rattle.rws_board.specs.Boards.Standing.{Going, NextFailed, ActFailed}
 use Rattle.rws_board.specs.Faults.{Rises}
 use Rattle.rws_board.specs.Put.{AppendsFront}
 use Rattle.rws_board.specs.declared.action.Action.{Action}
@@ -65,13 +65,13 @@ module _ (reader reader' : ReaderState) (left left' taken : Option (List ℕ)) (
   no_more over = ap (λ (place : Place). place.events) over.same ∙ omega arith
 
   pub input_failed : (side : Option Side) → PassesOver reader.place reader'.place → Rises input input'
-      → Ahead (ReadsPart reader.place reader'.place []) reader.held left reader'.held left' → ScriptDid (unread side) (read (Some Input)) [] (Failing faults.Failed)
+      → Ahead (ReadsPart reader.place reader'.place []) reader.held left reader'.held left' → ScriptDid (unread side) (read (Some Input)) [] (NextFailed faults.Failed)
   input_failed side over rose cut = record {
     counts = record { input = rises; output = omega arith; events = no_more over };
-    stands = record { rises = rose; read = cut; printed = Appends-nil taken };
+    stands = (refl, record { rises = rose; read = cut; printed = Appends-nil taken });
   }
 
-  pub no_memory_to_read : (side : Option Side) → PassesOver reader.place reader'.place → ScriptDid (unread side) (read side) [] (Failing faults.OutOfMemory)
+  pub no_memory_to_read : (side : Option Side) → PassesOver reader.place reader'.place → ScriptDid (unread side) (read side) [] (NextFailed faults.OutOfMemory)
   no_memory_to_read side over = record {
     counts = record { input = rises; output = omega arith; events = no_more over };
     stands = record { read = no_events reader left; printed = (0, Appends-nil taken) };
@@ -100,13 +100,13 @@ module _ (reader : ReaderState) (left taken taken' : Option (List ℕ)) (input o
   cut : (front : AppendsFront taken taken' (action_text action)) → AppendsFront taken taken' (text_of (action ∷ []))
   cut front = subst (λ (bytes : List ℕ). AppendsFront taken taken' bytes) (sym one_line) front
 
-  pub output_failed : (side : Option Side) → Rises output output' → AppendsFront taken taken' (action_text action) → ScriptDid (unput side) (put (Some Output)) (Took action ∷ []) (Failing faults.Failed)
+  pub output_failed : (side : Option Side) → Rises output output' → AppendsFront taken taken' (action_text action) → ScriptDid (unput side) (put (Some Output)) (Took action ∷ []) (ActFailed faults.Failed)
   output_failed side rose front = record {
     counts = record { input = omega arith; output = rises; events = omega arith };
-    stands = (rose, record { read = no_events reader left; printed = cut front });
+    stands = (refl, rose, record { read = no_events reader left; printed = cut front });
   }
 
-  pub no_memory_to_print : (side : Option Side) → AppendsFront taken taken' (action_text action) → ScriptDid (unput side) (put side) (Took action ∷ []) (Failing faults.OutOfMemory)
+  pub no_memory_to_print : (side : Option Side) → AppendsFront taken taken' (action_text action) → ScriptDid (unput side) (put side) (Took action ∷ []) (ActFailed faults.OutOfMemory)
   no_memory_to_print side front = record {
     counts = record { input = omega arith; output = rises; events = omega arith };
     stands = record { read = no_events reader left; printed = cut front };

@@ -2,7 +2,7 @@
 use Rattle.std.specs.Prelude.{◌≡◌, ℕ, ◌+◌, ◌-◌, ◌^◌, ◌≤◌, min, List, [], ◌++◌, length, Option, Some, None, ⊤}
 use Rattle.std.specs.Io.KnownBytes.{Appends, IsAtEnd}
 use Rattle.rws_board.specs.Boards.{Standing, events_given, actions_taken}
-use Rattle.rws_board.specs.Boards.Standing.{Going, Ended, Failing}
+use Rattle.rws_board.specs.Boards.Standing.{Going, Ended, NextFailed, ActFailed}
 use Rattle.rws_board.specs.Faults.{Rises}
 use Rattle.rws_board.specs.Put.{AppendsFront}
 use Rattle.rws_board.specs.declared.board_fault.BoardFault.TheVariants as faults
@@ -66,17 +66,14 @@ pub record IsCutShort (old new : ScriptBoardState) (interactions : List Interact
   pub read : FirstEvents old.reader old.left (events_given interactions)
   pub printed : AppendsFront old.taken new.taken (text_of (actions_taken interactions))
 
--- why a call failed, by the side
-abbrev pub SideFails : Option Side → ScriptBoardState → ScriptBoardState → List Interaction → Type 0
-SideFails (Some Input) old new interactions = InputFails old new interactions
-SideFails (Some Output) old new interactions = Rises old.output_faults new.output_faults × IsCutShort old new interactions
-SideFails None old new interactions = ⊥
-
 abbrev pub StandsSo : ScriptBoardState → ScriptBoardState → List Interaction → Standing → Type 0
 StandsSo old new interactions Going = Goes old new interactions
 StandsSo old new interactions Ended = Ends old new interactions
-StandsSo old new interactions (Failing faults.Failed) = SideFails new.failed old new interactions
-StandsSo old new interactions (Failing faults.OutOfMemory) = IsCutShort old new interactions
+StandsSo old new interactions (NextFailed faults.Failed) = (new.failed ≡ Some Input) × InputFails old new interactions
+StandsSo old new interactions (NextFailed faults.OutOfMemory) = IsCutShort old new interactions
+StandsSo old new interactions (ActFailed faults.Failed) =
+    (new.failed ≡ Some Output) × Rises old.output_faults new.output_faults × IsCutShort old new interactions
+StandsSo old new interactions (ActFailed faults.OutOfMemory) = IsCutShort old new interactions
 
 -- the board did this, and then stands so
 pub record ScriptDid (old new : ScriptBoardState) (interactions : List Interaction) (standing : Standing) : Type 0 where

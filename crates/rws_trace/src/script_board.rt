@@ -2,7 +2,7 @@
 //! what is left of the input and what the output has taken.
 ghost use Rattle.std.specs.Prelude.{◌≡◌, ◌≤◌, ◌∷◌, [], None, IfOk, IsErrOf, MatchResult};
 ghost use Rattle.rws_board.specs.Boards.{given, standing_after};
-ghost use Rattle.rws_board.specs.Boards.Standing.{Going, Failing};
+ghost use Rattle.rws_board.specs.Boards.Standing.{Going, NextFailed, ActFailed};
 ghost use Rattle.rws_board.specs.Faults.{Rises};
 ghost use Rattle.rws_board.specs.declared.interaction.Interaction.TheVariants.{Took};
 ghost use Rattle.rws_trace.specs.Reader.{fresh};
@@ -78,7 +78,7 @@ impl<'a, I: Source, O: Sink> ScriptBoard<'a, I, O> {
     fn read(&mut self) -> Result<Event, BoardFault>
         ensures did { MatchResult result
             (λ event. Did I.left I.faults O.taken O.faults self.old self.new (given event) (standing_after event))
-            (λ fault. Did I.left I.faults O.taken O.faults self.old self.new [] (Failing fault)) }
+            (λ fault. Did I.left I.faults O.taken O.faults self.old self.new [] (NextFailed fault)) }
         ensures failed { IsErrOf result BoardFault.Failed → Rises (I.faults self.old.input.now) (I.faults self.new.input.now) }
     {
         match self.reader.next(&mut *self.input) {
@@ -95,7 +95,7 @@ impl<'a, I: Source, O: Sink> ScriptBoard<'a, I, O> {
     fn print(&mut self, action: &Action) -> Result<(), BoardFault>
         ensures did { MatchResult result
             (λ _. Did I.left I.faults O.taken O.faults self.old self.new (Took action.now ∷ []) Going)
-            (λ fault. Did I.left I.faults O.taken O.faults self.old self.new (Took action.now ∷ []) (Failing fault)) }
+            (λ fault. Did I.left I.faults O.taken O.faults self.old self.new (Took action.now ∷ []) (ActFailed fault)) }
         ensures failed { IsErrOf result BoardFault.Failed → Rises (O.faults self.old.out.now) (O.faults self.new.out.now) }
     {
         let line = match action_line(self.alloc, action) {

@@ -1,0 +1,11 @@
+-- maps of which one key changes
+pub mod MapLemmas
+-- what a run holds of each session, and how a session's steps become the run's
+pub mod RecordLemmas
+pub mod StepLemmas
+pub mod TurnLemmas
+-- what the worker stands for behind an event
+pub mod EventLemmas
+pub mod TellLemmas
+-- what a board did
+pub mod WorkLemmas

@@ -1,0 +1,18 @@
+use Rattle.std.proofs.Common.{◌≡◌, ◌≤◌, List, ◌++◌, map, length}
+use Rattle.rws_board.specs.Boards.Standing.{Going}
+use Rattle.rws_board.specs.declared.interaction.Interaction.{Interaction}
+use Rattle.rws_board.specs.declared.interaction.Interaction.TheVariants.{Took}
+use Rattle.rws_config.specs.declared.config.Config.{Config}
+use Rattle.rws_record.specs.Run.{Entry}
+use Rattle.rws_worker.specs.Standing.{WorkerStands}
+use Rattle.rws_worker.proofs.work.act_all.Given as goal
+
+abbrev pub invariant-loop-action : goal.invariant-loop-action
+invariant-loop-action g l =
+    ((done : List Interaction) × (map Took l.initial.worker.outs.items ≡ done ++ map Took l.worker.outs.items)
+    × g.B.Board.did l.initial.board l.board done Going)
+    × (g.B.Board.faults l.initial.board ≤ g.B.Board.faults l.board)
+    × ((config : Config) (run : List Entry) → WorkerStands config l.initial.worker run → WorkerStands config l.worker run)
+
+abbrev pub decreases-loop-action : goal.decreases-loop-action
+decreases-loop-action g l = length l.worker.outs.items

@@ -1,0 +1,71 @@
+-- What a worker over a board answers, and what the board did by then.
+use Rattle.std.specs.Prelude.{◌≡◌, ℕ, ◌+◌, ◌^◌, ◌<◌, List, [], ◌∷◌, ◌++◌, length, map, None}
+use Rattle.rws_board.specs.Boards.{Standing}
+use Rattle.rws_board.specs.Boards.Standing.{Going, Ended as AtEnd, NextFailed, ActFailed}
+use Rattle.rws_board.specs.declared.board_fault.BoardFault.{BoardFault}
+use Rattle.rws_board.specs.declared.board_fault.BoardFault.TheVariants as faults
+use Rattle.rws_board.specs.declared.event.Event.{Event}
+use Rattle.rws_board.specs.declared.interaction.Interaction.{Interaction}
+use Rattle.rws_board.specs.declared.interaction.Interaction.TheVariants.{Gave, Took}
+use Rattle.rws_config.specs.declared.config.Config.{Config}
+use Rattle.rws_record.specs.Run.{Entry, IsRun, next_entry, events_of}
+use Rattle.rws_worker.specs.Standing.{interactions_of, WorkerStands}
+use Rattle.rws_worker.specs.declared.work.WorkEnd.{WorkEnd}
+use Rattle.rws_worker.specs.declared.work.WorkEnd.TheVariants as ends
+use Rattle.rws_worker.specs.declared.worker.Worker.{Worker}
+
+-- a run that rests, over fewer than 2^32 events
+pub record IsResting (config : Config) (run : List Entry) : Type 0 where
+  pub legal : IsRun config run
+  pub rests : next_entry config run ≡ None
+  pub few : length (events_of run) < 2 ^ 32
+
+-- what was done is a front of what passes in a run that rests
+pub record IsFront (config : Config) (done : List Interaction) : Type 0 where
+  pub run : List Entry
+  pub resting : IsResting config run
+  pub rest : List Interaction
+  pub parted : interactions_of run ≡ done ++ rest
+
+-- How a worker's work ended, where `did` says what the board did and how it stands. What the board did is what passes
+-- in a run, or a front of it.
+pub data Works (config : Config) (did : List Interaction → Standing → Type 0) : WorkEnd → Type 0 where
+  -- the board gave the end
+  ended : (run : List Entry) → IsResting config run → did (interactions_of run) AtEnd → Works config did ends.Ended
+  -- it gave no event, where all that came of those before was done
+  unread : (run : List Entry) → IsResting config run → did (interactions_of run) (NextFailed faults.Failed)
+      → Works config did ends.BoardFailed
+  -- it didn't take an action, the last of these
+  untaken : (done : List Interaction) → IsFront config done → did done (ActFailed faults.Failed)
+      → Works config did ends.BoardFailed
+  -- the event of number 2^32 came, and isn't handled
+  too_many : (run : List Entry) (event : Event) → IsResting config run → length (events_of run) + 1 ≡ 2 ^ 32
+      → did (interactions_of run ++ Gave event ∷ []) Going → Works config did ends.TooMany
+  -- memory was wanting: for an event that was given, or in the board
+  starved : (run : List Entry) (event : Event) → IsResting config run → did (interactions_of run ++ Gave event ∷ []) Going
+      → Works config did ends.OutOfMemory
+  starved_reading : (run : List Entry) → IsResting config run → did (interactions_of run) (NextFailed faults.OutOfMemory)
+      → Works config did ends.OutOfMemory
+  starved_acting : (done : List Interaction) → IsFront config done → did done (ActFailed faults.OutOfMemory)
+      → Works config did ends.OutOfMemory
+
+-- Between two events: all that came of those before is done.
+pub record IsUnderway (config : Config) (did : List Interaction → Standing → Type 0) (worker : Worker) (events : ℕ) : Type 0 where
+  pub run : List Entry
+  pub stands : WorkerStands config worker run
+  pub fetched : worker.outs.items ≡ []
+  pub counted : events ≡ length (events_of run)
+  pub few : events < 2 ^ 32
+  pub done_so_far : did (interactions_of run) Going
+
+-- all that was to be fetched of a worker was done
+pub record TakesAll (did : List Interaction → Standing → Type 0) (old new : Worker) : Type 0 where
+  pub all_done : did (map Took old.outs.items) Going
+  pub fetched : new.outs.items ≡ []
+
+-- a front of what was to be fetched was done, or tried
+pub record TakesSome (did : List Interaction → Standing → Type 0) (old : Worker) (fault : BoardFault) : Type 0 where
+  pub done : List Interaction
+  pub rest : List Interaction
+  pub parted : map Took old.outs.items ≡ done ++ rest
+  pub some_done : did done (ActFailed fault)

@@ -1,0 +1,98 @@
+//! A worker over a board.
+ghost use Rattle.std.specs.Prelude.{◌≡◌, ◌≤◌, ◌+◌, [], List, Some, IfOk, IfSome, IsErrOf, MatchOption, MatchResult, map};
+ghost use Rattle.rws_board.specs.Boards.{Standing};
+ghost use Rattle.rws_board.specs.Faults.{Rises};
+ghost use Rattle.rws_board.specs.declared.interaction.Interaction.{Interaction};
+ghost use Rattle.rws_config.specs.declared.config.Config.{Config};
+ghost use Rattle.rws_record.specs.Run.{Entry};
+ghost use Rattle.rws_worker.specs.Standing.{WorkerStands};
+ghost use Rattle.rws_worker.specs.Working.{IsUnderway, TakesAll, TakesSome, Works};
+ghost use Rattle.rws_worker.specs.declared.work.WorkEnd.TheVariants.{BoardFailed};
+
+use crate::{Step, Worker};
+use rws_board::{Board, BoardFault, Event};
+use rws_config::Config;
+use std::alloc::Global;
+
+/// How a worker's work ended.
+#[derive(Clone, Copy, Debug, PartialEq, Eq)]
+pub enum WorkEnd {
+    /// The board gave the end.
+    Ended,
+    /// A call of the board failed, and its count of faults rose.
+    BoardFailed,
+    /// The event of number 4,294,967,296 came, the end not counted. It isn't handled.
+    TooMany,
+    /// There was no memory for an event, or in the board.
+    OutOfMemory,
+}
+
+/// Runs a worker over a board until the board's end: it takes the board's next event, does all that comes of it, and then
+/// asks for the next one. It waits for nobody, and always returns.
+pub fn work_here<B: Board>(alloc: Global, board: &mut B, config: &Config) -> WorkEnd
+    ensures works { Works config.now (λ interactions standing. B.did board.old board.new interactions standing) result }
+    ensures counts { B.faults board.old ≤ B.faults board.new }
+    ensures failed { result ≡ BoardFailed → Rises (B.faults board.old) (B.faults board.new) }
+{
+    let mut worker = Worker::new(alloc);
+    let mut events = 0;
+    'events: loop {
+        if let Some(end) = handle_next(&mut worker, board, config, &mut events) {
+            return end;
+        }
+    }
+}
+
+/// Takes the next event and does all that comes of it. `events` were taken before.
+fn handle_next<B: Board>(
+    worker: &mut Worker,
+    board: &mut B,
+    config: &Config,
+    events: &mut u32,
+) -> Option<WorkEnd>
+    requires { (start : B) × IsUnderway config.now (B.did start board.old) worker.old events.old }
+    ensures goes { (start : B) → IsUnderway config.now (B.did start board.old) worker.old events.old
+        → MatchOption result (IsUnderway config.now (B.did start board.new) worker.new events.new)
+        (λ end. Works config.now (B.did start board.new) end) }
+    ensures counted { MatchOption result (events.new ≡ events.old + 1) (λ _. events.new ≡ events.new) }
+    ensures counts { B.faults board.old ≤ B.faults board.new }
+    ensures failed { result ≡ Some BoardFailed → Rises (B.faults board.old) (B.faults board.new) }
+{
+    let event = match board.next(0) {
+        Ok(Event::End) => return Some(WorkEnd::Ended),
+        Ok(event) => event,
+        Err(BoardFault::Failed) => return Some(WorkEnd::BoardFailed),
+        Err(BoardFault::OutOfMemory) => return Some(WorkEnd::OutOfMemory),
+    };
+    if *events == u32::MAX {
+        return Some(WorkEnd::TooMany);
+    }
+    *events += 1;
+    if worker.give(event, config).is_err() {
+        return Some(WorkEnd::OutOfMemory);
+    }
+    match act_all(worker, board) {
+        Ok(()) => None,
+        Err(BoardFault::Failed) => Some(WorkEnd::BoardFailed),
+        Err(BoardFault::OutOfMemory) => Some(WorkEnd::OutOfMemory),
+    }
+}
+
+/// Does all that came of the last event, in order.
+fn act_all<B: Board>(worker: &mut Worker, board: &mut B) -> Result<(), BoardFault>
+    ensures acts { MatchResult result
+        (λ _. TakesAll (B.did board.old board.new) worker.old worker.new)
+        (λ fault. TakesSome (B.did board.old board.new) worker.old fault) }
+    ensures stands { (config : Config) (run : List Entry) → WorkerStands config worker.old run
+        → WorkerStands config worker.new run }
+    ensures counts { B.faults board.old ≤ B.faults board.new }
+    ensures failed { IsErrOf result BoardFault.Failed → Rises (B.faults board.old) (B.faults board.new) }
+{
+    while let Step::Act(action) = worker.step() {
+        match board.act(action) {
+            Ok(()) => {}
+            Err(fault) => return Err(fault),
+        }
+    }
+    Ok(())
+}
