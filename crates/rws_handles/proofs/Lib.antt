@@ -1,0 +1,7 @@
+-- one statement
+pub mod StatementLemmas
+-- ids on links
+pub mod LinkLemmas
+-- statements under their numbers
+pub mod SlotLemmas
+pub mod SweepLemmas
