@@ -5,3 +5,6 @@ pub mod LinkLemmas
 -- statements under their numbers
 pub mod SlotLemmas
 pub mod SweepLemmas
+-- plain forms
+pub mod ReadLemmas
+pub mod RunLemmas

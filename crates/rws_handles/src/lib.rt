@@ -4,6 +4,7 @@
 mod command;
 mod fault;
 mod handles;
+mod law;
 mod link_ids;
 mod links;
 mod statement;
@@ -11,3 +12,4 @@ mod statements;
 
 pub use fault::{ExecuteFault, HandleFault, OnWireFault, UnknownHandle};
 pub use handles::Handles;
+pub use law::plain_forms_stay;
