@@ -8,3 +8,5 @@ pub mod SweepLemmas
 -- plain forms
 pub mod ReadLemmas
 pub mod RunLemmas
+-- examples
+pub mod ExampleLemmas

@@ -118,3 +118,12 @@ runs_the_plain_form statement on_server payload plain id is fits form text param
       typed = rw parameters run.typed;
       values = rw parameters run.values;
     }) server_is.no_types
+
+-- ---- what is put on a link
+
+pub puts_plain : (number id : ℕ) (plain : Plain) (kept before after : List (List ℕ)) → kept ≡ spelled number plain → after ≡ before ++ map (renumbered id) kept → after ≡ before ++ spelled id plain
+puts_plain number id plain kept before after is put =
+    put ∙ ap (λ (commands : List (List ℕ)). before ++ commands) (ap (map (renumbered id)) is ∙ is_renumbered number id plain)
+
+pub number_kept : (kept : List (List ℕ)) (number : ℕ) (plain : Plain) → number < 2 ^ 32 → kept ≡ spelled number plain → number_in kept ≡ number
+number_kept kept number plain fits is = ap number_in is ∙ is_of_its_number number plain fits

@@ -5,7 +5,7 @@ use Rattle.rws_handles.specs.declared.fault.HandleFault.TheVariants.{UnknownHand
 use Rattle.rws_handles.specs.declared.fault.UnknownHandle as none
 use Rattle.rws_handles.specs.declared.fault.OnWireFault.{OnWireFault}
 use Rattle.rws_handles.specs.declared.fault.OnWireFault.TheVariants as wire
-use Rattle.rws_handles.specs.PlainForm.{renumbered}
+use Rattle.rws_handles.specs.PlainForm.{Plain, renumbered, spelled}
 
 -- the handle is unknown exactly where nothing is found; memory is wanted only where something is
 abbrev pub Finds : {A : Type 0} → Option A → Result (Unit {0}) HandleFault → Type 0
@@ -23,3 +23,8 @@ abbrev pub Puts : Option ℕ → List (List ℕ) → List (List ℕ) → List (L
 Puts id kept before after (Ok done) = (number : ℕ) × (id ≡ Some number) × (after ≡ before ++ map (renumbered number) kept)
 Puts id kept before after (Err wire.NotOnLink) = (id ≡ None) × (after ≡ before)
 Puts id kept before after (Err wire.OutOfMemory) = IsSome id × (after ≡ before)
+
+-- the commands of this plain form were put, under the statement's id on the link
+abbrev pub PutsPlain : Plain → Option ℕ → List (List ℕ) → List (List ℕ) → Result (Unit {0}) OnWireFault → Type 0
+PutsPlain plain id before after (Ok done) = (number : ℕ) × (id ≡ Some number) × (after ≡ before ++ spelled number plain)
+PutsPlain plain id before after (Err fault) = Unit {0}

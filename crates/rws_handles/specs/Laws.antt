@@ -11,6 +11,10 @@ pub record IsPrepared (statement : Prepared) : Type 0 where
   pub no_types : statement.parameters ≡ 0 → statement.types ≡ None
   pub pieces : AllByRecursion (λ piece. piece.parameter < 2 ^ 16) statement.long_data
 
+abbrev pub IsPreparedAt : Option Prepared → Type 0
+IsPreparedAt None = Unit {0}
+IsPreparedAt (Some statement) = IsPrepared statement
+
 -- The plain form of an execute of a statement, spelled under whatever number and given another, is spelled under the
 -- other.
 abbrev pub IsRenumbered : Type 0

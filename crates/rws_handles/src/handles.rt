@@ -1,6 +1,6 @@
 //! The table of a session's prepared statements. A client names a statement by a handle: its number, or 0xFFFFFFFF for
 //! the last that was prepared. Servers name it by ids, one a link.
-ghost use Rattle.std.specs.Prelude.{◌≡◌, ◌<◌, Option, Some, None, IfOk, OnOk, OnErr, unwrap_or};
+ghost use Rattle.std.specs.Prelude.{◌≡◌, ◌<◌, ◌^◌, ℕ, Option, Some, None, IfOk, OnOk, OnErr, unwrap_or};
 ghost use Rattle.std.specs.Option.{option_copied};
 ghost use Rattle.rws_wire.specs.Reading.{Reads};
 ghost use Rattle.rws_handles.specs.Table.{named};
@@ -14,10 +14,13 @@ use rws_wire::{PayloadList, Text};
 use std::alloc::{AllocError, Global};
 use std::marker::Model;
 
+/// How many statements can stand in the table.
+pub const MAX_HANDLES: usize = 65_536;
+
 /// The handle of the last statement that was prepared.
 const LAST_PREPARED: u32 = 0xFFFF_FFFF;
 
-/// The prepared statements of a session, with the ids that they have on its links. At most 65,536 stand there.
+/// The prepared statements of a session, with the ids that they have on its links. At most `MAX_HANDLES` stand there.
 #[derive(Drop)]
 pub struct Handles {
     alloc: Global,
@@ -36,10 +39,11 @@ impl Model for Handles {
 
 impl Handles {
     ghost use Rattle.rws_handles.specs.Answers.{Takes};
-    ghost use Rattle.rws_handles.specs.Fault.{Finds, Knows, Puts};
+    ghost use Rattle.rws_handles.specs.Fault.{Finds, Knows, Puts, PutsPlain};
+    ghost use Rattle.rws_handles.specs.Laws.{IsPreparedAt};
     ghost use Rattle.rws_handles.specs.LinkIds.{least};
     ghost use Rattle.rws_handles.specs.Links.{id_on, ids_on, with_id_on, without_least_on, without_link};
-    ghost use Rattle.rws_handles.specs.PlainForm.{handle_in, number_in, text_of};
+    ghost use Rattle.rws_handles.specs.PlainForm.{Plain, handle_in, number_in, spelled, text_of};
     ghost use Rattle.rws_handles.specs.Prepared.{executed, with_long_data, without_long_data};
     ghost use Rattle.rws_handles.specs.Slots.{Opens, count, next_number, statement_at};
     ghost use Rattle.rws_handles.specs.Table.{changed, closed, empty, execute_of, held_by, number_of_execute, open_at, swept};
@@ -63,7 +67,8 @@ impl Handles {
         self.statements.len()
     }
 
-    /// A prepare was answered with these numbers of columns and parameters. The number is the client's handle.
+    /// A prepare was answered with these numbers of columns and parameters, while the table has fewer than `MAX_HANDLES`
+    /// statements. The number is the client's handle.
     pub fn opened(&mut self, text: Text, columns: u16, parameters: u16) -> Result<u32, AllocError>
         requires { count self.old.statements < 65536 }
         ensures number { IfOk result (λ number. number ≡ next_number self.old.statements) }
@@ -144,8 +149,11 @@ impl Handles {
     /// Takes an execute: the statement's long data, in order, and the execute with the types that were given last, as
     /// commands under the client's number of the statement.
     pub fn take_execute(&mut self, payload: &[u8]) -> Result<PayloadList, ExecuteFault>
-        ensures { Takes (execute_of self.old payload.now) (number_of_execute self.old payload.now)
+        ensures takes { Takes (execute_of self.old payload.now) (number_of_execute self.old payload.now)
             (λ plain. changed (executed plain.types) self.old (unwrap_or (handle_in payload.now) 0)) self.old self.new result }
+
+        // So what is taken is run by a server that prepared the same text (`plain_forms_stay`).
+        ensures prepared { OnOk result (IsPreparedAt (open_at self.old (unwrap_or (handle_in payload.now) 0))) }
     {
         let Some(handle) = handle_in(payload) else {
             return Err(ExecuteFault::UnknownHandle);
@@ -164,7 +172,11 @@ impl Handles {
         link: u64,
         out: &mut PayloadList,
     ) -> Result<(), OnWireFault>
-        ensures { Puts (id_on self.now.links link (number_in kept.now)) kept.now out.old out.new result }
+        ensures puts { Puts (id_on self.now.links link (number_in kept.now)) kept.now out.old out.new result }
+
+        // The plain form stays, whatever the link and however often it is sent.
+        ensures plain { (number : ℕ) (plain : Plain) → number < 2 ^ 32 → kept.now ≡ spelled number plain
+            → PutsPlain plain (id_on self.now.links link number) out.old out.new result }
     {
         let Some(id) = self.links.id(link, number_in(kept)) else {
             return Err(OnWireFault::NotOnLink);

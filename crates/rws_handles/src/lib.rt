@@ -1,4 +1,6 @@
-//! The prepared statements of a session, and the ids that they have on its links.
+//! The prepared statements of a session, and the ids that they have on its links. A command on a statement is kept under
+//! the client's number of the statement and can be sent on any link, now and later, where it runs the same plain form:
+//! the text, the long data, the types and the values.
 #![tactic(auto)]
 
 mod command;
@@ -11,5 +13,8 @@ mod statement;
 mod statements;
 
 pub use fault::{ExecuteFault, HandleFault, OnWireFault, UnknownHandle};
-pub use handles::Handles;
+pub use handles::{Handles, MAX_HANDLES};
 pub use law::plain_forms_stay;
+
+#[cfg(test)]
+mod tests;

@@ -48,6 +48,7 @@ impl Statement {
     ghost use Rattle.rws_msgs.specs.ExecuteLayout.{IsExecuteHead};
     ghost use Rattle.rws_msgs.specs.ExecuteParts.{execute_of};
     ghost use Rattle.rws_handles.specs.Answers.{Takes};
+    ghost use Rattle.rws_handles.specs.Laws.{IsPrepared};
     ghost use Rattle.rws_handles.specs.PlainForm.{plain_form, run_bytes};
     ghost use Rattle.rws_handles.specs.Prepared.{IsSame, closed_later, executed, long_bytes, prepared, with_long_data, without_long_data};
     ghost use Rattle.rws_handles.specs.StatementParts.{knows_types, plain_of_parts};
@@ -168,6 +169,7 @@ impl Statement {
     pub fn take(&mut self, alloc: Global, payload: &[u8]) -> Result<PayloadList, ExecuteFault>
         ensures takes { Takes (plain_form self.old payload.now) self.old.number (λ plain. executed plain.types self.old) self.old self.new result }
         ensures kept { IsSame self.old self.new }
+        ensures prepared { IsPrepared self.old }
     {
         let parts = self.split(payload)?;
         let command = self.run_command(alloc, &parts)?;

@@ -41,6 +41,7 @@ impl Statements {
     ghost use Rattle.rws_handles.specs.Slots.{Opens, closed_numbers, count, is_closed, next_number, no_slots, statement_at, updated, without_all};
     ghost use Rattle.rws_handles.specs.Links.{left_all};
     ghost use Rattle.rws_handles.specs.Answers.{Takes};
+    ghost use Rattle.rws_handles.specs.Laws.{IsPreparedAt};
     ghost use Rattle.rws_handles.specs.Prepared.{closed_later, executed, with_long_data, without_long_data};
     ghost use Rattle.rws_handles.specs.Table.{plain_if_open};
 
@@ -119,7 +120,8 @@ impl Statements {
 
     /// Takes an execute of the statement of this number.
     pub fn take(&mut self, number: u32, payload: &[u8]) -> Result<PayloadList, ExecuteFault>
-        ensures { Takes (plain_if_open (statement_at self.old number) payload.now) number (λ plain. updated (executed plain.types) number self.old) self.old self.new result }
+        ensures takes { Takes (plain_if_open (statement_at self.old number) payload.now) number (λ plain. updated (executed plain.types) number self.old) self.old self.new result }
+        ensures prepared { OnOk result (IsPreparedAt (statement_at self.old number)) }
     {
         if number == 0 {
             return Err(ExecuteFault::UnknownHandle);
