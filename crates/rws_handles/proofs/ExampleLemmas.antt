@@ -1,5 +1,5 @@
 -- The definitions computed on two executes of `select ?`: one that gives the types, and a later one that doesn't.
-use Rattle.std.proofs.Common.{◌≡◌, ℕ, List, [], ◌∷◌, map, codes, Some, Ok, refl}
+use Rattle.std.proofs.Common.{◌≡◌, ℕ, [], ◌∷◌, map, codes, Some, Ok, refl}
 use Rattle.rws_msgs.specs.Fields.{bytes_at, fixed_at, number_at}
 use Rattle.rws_msgs.specs.ExecuteLayout.{execute_at, execute_bytes, once_at, types_at, types_bytes, values_at, values_bytes}
 use Rattle.rws_handles.specs.PlainForm.{Plain, plain_form, renumbered, run_bytes, spelled}

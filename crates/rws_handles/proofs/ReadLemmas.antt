@@ -1,6 +1,6 @@
 -- What is true of an execute that was read.
-use Rattle.std.proofs.Common.{◌≡◌, ◌==◌, ◌≢◌, ℕ, ◌+◌, ◌*◌, ◌/◌, ◌<◌, ◌≤◌, Bool, true, false, cond, nat_lt, ltb, is_some, ◌||◌, List, [], ◌∷◌, ◌++◌, length, take, drop, Option, Some, None, Result, Ok, Err, refl, sym, ap, subst, ◌∙◌, arith}
-use Rattle.std.proofs.lemmas.Bool.{cases_eq, eqb-true, ltb-false}
+use Rattle.std.proofs.Common.{◌≡◌, ◌==◌, ◌≢◌, ℕ, ◌+◌, ◌*◌, ◌/◌, ◌≤◌, Bool, true, false, cond, nat_lt, is_some, ◌||◌, List, [], ◌∷◌, length, take, drop, Option, Some, None, Result, Ok, Err, refl, sym, ap, subst, arith}
+use Rattle.std.proofs.lemmas.Bool.{eqb-true, ltb-false}
 use Rattle.std.proofs.lemmas.List.{length-take}
 use Rattle.rws_wire.specs.Reading.{◌>>=◌}
 use Rattle.rws_msgs.specs.declared.fault.MsgFault.{MsgFault}
@@ -11,8 +11,8 @@ use Rattle.rws_msgs.specs.ExecuteLayout.{AreValues, HaveSize, IsExecuteHead, exe
 use Rattle.rws_handles.specs.declared.fault.ExecuteFault.{ExecuteFault}
 use Rattle.rws_handles.specs.declared.fault.ExecuteFault.TheVariants.{BadExecute, CursorAsked}
 use Rattle.rws_handles.specs.Laws.{IsPrepared}
-use Rattle.rws_handles.specs.PlainForm.{Plain, asks_cursor, or_last, plain_form, plain_if_read, plain_of}
-use Rattle.rws_handles.specs.Prepared.{LongData, Prepared}
+use Rattle.rws_handles.specs.PlainForm.{Plain, asks_cursor, or_last, plain_form, plain_if_read}
+use Rattle.rws_handles.specs.Prepared.{Prepared}
 use Rattle.rws_handles.proofs.StatementLemmas.{no_types_stay, types_stay}
 
 -- the fact of what is read, if something is

@@ -1,20 +1,17 @@
 -- Commands that spell a plain form: under another number, and read by a server.
-use Rattle.std.proofs.Common.{◌≡◌, ◌==◌, ℕ, ◌+◌, ◌^◌, ◌<◌, Bool, true, false, cond, is_some, ◌||◌, List, [], ◌∷◌, ◌++◌, length, map, Option, Some, None, Result, Ok, Err, refl, sym, ap, subst, ◌∙◌, append_assoc, arith}
+use Rattle.std.proofs.Common.{◌≡◌, ◌==◌, ℕ, ◌^◌, ◌<◌, Bool, true, false, is_some, ◌||◌, List, [], ◌∷◌, ◌++◌, map, Option, Some, None, Ok, refl, sym, ap, ◌∙◌, append_assoc, arith}
 use Rattle.std.specs.List.{AllByRecursion}
 use Rattle.std.proofs.lemmas.Bool.{eq-eqb, eqb-true}
-use Rattle.std.proofs.lemmas.List.{append-nil, map-append}
-use Rattle.rws_wire.specs.Numbers.{bytes_of, number_of}
-use Rattle.rws_wire.specs.Reading.{◌>>=◌}
+use Rattle.std.proofs.lemmas.List.{append-nil}
+use Rattle.rws_wire.specs.Numbers.{bytes_of}
 use Rattle.rws_wire.proofs.NumberLemmas.{number_of-bytes_of}
 use Rattle.rws_msgs.specs.declared.execute_head.ExecuteHead.{ExecuteHead}
-use Rattle.rws_msgs.specs.declared.fault.MsgFault.{MsgFault}
-use Rattle.rws_msgs.specs.Fields.{fixed_at, number_at}
-use Rattle.rws_msgs.specs.ExecuteLayout.{AreValues, ExecuteFits, execute_at, execute_bytes}
+use Rattle.rws_msgs.specs.Fields.{fixed_at}
+use Rattle.rws_msgs.specs.ExecuteLayout.{AreValues, execute_at, execute_bytes}
 use Rattle.rws_msgs.proofs.ExecuteLemmas.{execute_again}
 use Rattle.rws_msgs.proofs.FieldLemmas.{fixed_again, number_again}
-use Rattle.rws_handles.specs.declared.fault.ExecuteFault.{ExecuteFault}
-use Rattle.rws_handles.specs.Laws.{IsOfItsNumber, IsPrepared, IsRenumbered, RunsThePlainForm}
-use Rattle.rws_handles.specs.PlainForm.{Plain, handle_in, long_data_at, long_data_bytes, number_in, or_last, plain_form, plain_if_of, plain_if_ok, plain_if_read, plain_of, renumbered, run_bytes, runs, spelled}
+use Rattle.rws_handles.specs.Laws.{IsOfItsNumber, IsRenumbered, RunsThePlainForm}
+use Rattle.rws_handles.specs.PlainForm.{Plain, handle_in, long_data_at, long_data_bytes, number_in, or_last, plain_form, plain_if_of, plain_if_read, renumbered, run_bytes, runs, spelled}
 use Rattle.rws_handles.specs.Prepared.{LongData, Prepared, with_long_data}
 use Rattle.rws_handles.proofs.ReadLemmas.{IsRunOf, is_run}
 

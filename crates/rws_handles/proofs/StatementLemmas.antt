@@ -1,13 +1,10 @@
 -- Long data that is kept as commands, and types that are stored.
-use Rattle.std.proofs.Common.{◌≡◌, ℕ, ◌+◌, ◌*◌, ◌^◌, ◌<◌, List, [], ◌∷◌, ◌++◌, length, map, take, drop, Option, Some, None, refl, sym, ap, ◌∙◌, arith}
+use Rattle.std.proofs.Common.{◌≡◌, ℕ, ◌+◌, ◌^◌, ◌<◌, List, [], ◌∷◌, ◌++◌, length, map, Option, Some, None, refl, ap, ◌∙◌, arith}
 use Rattle.std.specs.List.{AllByRecursion}
-use Rattle.std.specs.Option.{option_map}
-use Rattle.std.proofs.lemmas.List.{take_at, drop_at, length-append}
-use Rattle.rws_wire.specs.Numbers.{bytes_of, number_of}
 use Rattle.rws_wire.proofs.NumberLemmas.{number_of-bytes_of}
 use Rattle.rws_msgs.specs.ExecuteLayout.{HaveSize}
 use Rattle.rws_handles.specs.declared.statement.Statement.TheInside.{Inside}
-use Rattle.rws_handles.specs.Prepared.{LongData, Prepared, long_bytes, with_long_data}
+use Rattle.rws_handles.specs.Prepared.{LongData, long_bytes, with_long_data}
 use Rattle.rws_handles.specs.PlainForm.{long_data_bytes, or_last}
 use Rattle.rws_handles.specs.StatementView.{HoldsPieces, piece_of, pieces_of, statement_view}
 

@@ -1,5 +1,5 @@
 -- What the calls on executes answer.
-use Rattle.std.specs.Prelude.{◌≡◌, ℕ, List, ◌++◌, map, Option, Some, None, IsSome, Result, Ok, Err, IsOk}
+use Rattle.std.specs.Prelude.{◌≡◌, ℕ, List, Result, Ok, Err, IsOk}
 use Rattle.rws_handles.specs.declared.fault.ExecuteFault.{ExecuteFault}
 use Rattle.rws_handles.specs.declared.fault.ExecuteFault.TheVariants.{UnknownHandle, CursorAsked, BadExecute, OutOfMemory}
 use Rattle.rws_handles.specs.PlainForm.{Plain, spelled}

@@ -1,5 +1,5 @@
 -- The plain form stays: what is sent on a link does what the client asked for.
-use Rattle.std.specs.Prelude.{◌≡◌, ℕ, ◌*◌, ◌^◌, ◌<◌, List, [], map, length, Option, Some, None, Ok}
+use Rattle.std.specs.Prelude.{◌≡◌, ℕ, ◌^◌, ◌<◌, List, [], map, Option, Some, None, Ok}
 use Rattle.std.specs.List.{AllByRecursion}
 use Rattle.rws_msgs.specs.ExecuteLayout.{HaveSize}
 use Rattle.rws_handles.specs.Prepared.{Prepared}

@@ -1,5 +1,5 @@
 -- What a `LinkIds` stands for, and what is true of its fields.
-use Rattle.std.specs.Prelude.{ℕ, ◌+◌, ◌≤◌, length, vec_len}
+use Rattle.std.specs.Prelude.{◌+◌, ◌≤◌, vec_len}
 use Rattle.std.specs.Vec.{vec_capacity}
 use Rattle.std.specs.BTreeMap.{btree_map_len}
 use Rattle.rws_handles.specs.declared.link_ids.LinkIds.TheInside.{Inside}

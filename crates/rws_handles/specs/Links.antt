@@ -1,7 +1,7 @@
 -- The ids that the servers gave to statements, one entry a link.
-use Rattle.std.specs.Prelude.{◌≡◌, ℕ, Bool, not, ◌==◌, List, [], ◌∷◌, ◌++◌, map, filter, slice_get, slice_set, unwrap_or, Option, Some, None}
+use Rattle.std.specs.Prelude.{ℕ, not, ◌==◌, List, [], ◌∷◌, ◌++◌, map, filter, slice_get, slice_set, unwrap_or, Option, Some, None}
 use Rattle.std.specs.List.{position_from}
-use Rattle.rws_handles.specs.LinkIds.{Ids, no_ids, id_of, with_id, with_left, without_least, least}
+use Rattle.rws_handles.specs.LinkIds.{Ids, no_ids, id_of, with_id, with_left, without_least}
 
 abbrev pub place_of : ℕ → List Ids → Option ℕ
 place_of link links = position_from (λ on. on.link == link) 0 links

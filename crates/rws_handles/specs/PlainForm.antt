@@ -1,6 +1,6 @@
 -- The plain form of an execute: what is run, without a number for the statement ("COM_STMT_EXECUTE"). Each link has numbers
 -- of its own for the same statement; commands on two links do the same where their plain forms are equal.
-use Rattle.std.specs.Prelude.{◌≡◌, ℕ, ◌+◌, Bool, true, false, if◌then◌else◌, ◌==◌, ◌||◌, List, [], ◌∷◌, ◌++◌, length, map, slice_index, is_some, Option, Some, None, Result, Ok, Err}
+use Rattle.std.specs.Prelude.{ℕ, Bool, true, false, if◌then◌else◌, ◌==◌, ◌||◌, List, [], ◌∷◌, ◌++◌, map, slice_index, is_some, Option, Some, None, Result, Ok, Err}
 use Rattle.rws_wire.specs.Numbers.{bytes_of, number_of}
 use Rattle.rws_wire.specs.Reading.{◌>>=◌}
 use Rattle.rws_msgs.specs.declared.fault.MsgFault.{MsgFault}
@@ -8,7 +8,7 @@ use Rattle.rws_msgs.specs.declared.execute_head.ExecuteHead.{ExecuteHead}
 use Rattle.rws_msgs.specs.Fields.{fixed_at, number_at}
 use Rattle.rws_msgs.specs.ExecuteLayout.{execute_at, execute_bytes}
 use Rattle.rws_handles.specs.declared.fault.ExecuteFault.{ExecuteFault}
-use Rattle.rws_handles.specs.declared.fault.ExecuteFault.TheVariants.{UnknownHandle, CursorAsked, BadExecute}
+use Rattle.rws_handles.specs.declared.fault.ExecuteFault.TheVariants.{CursorAsked, BadExecute}
 use Rattle.rws_handles.specs.Prepared.{LongData, Prepared, with_long_data}
 
 pub record Plain : Type 0 where

@@ -1,5 +1,5 @@
 -- A prepared statement, as either side of a connection keeps it ("COM_STMT_PREPARE").
-use Rattle.std.specs.Prelude.{◌≡◌, ℕ, ◌+◌, ◌*◌, List, [], ◌∷◌, ◌++◌, Bool, true, false, length, Option, Some, None}
+use Rattle.std.specs.Prelude.{◌≡◌, ℕ, ◌+◌, List, [], ◌∷◌, ◌++◌, Bool, true, false, length, Option, None}
 
 -- what a COM_STMT_SEND_LONG_DATA says: the parameter, counted from 0, and some of its bytes
 pub record LongData : Type 0 where

@@ -1,5 +1,5 @@
 -- The statements of a session and the numbers that the client has for them.
-use Rattle.std.specs.Prelude.{◌≡◌, ℕ, ◌+◌, ◌-◌, Bool, true, false, if◌then◌else◌, ◌==◌, List, [], ◌∷◌, ◌++◌, length, take, slice_get, slice_index_or, slice_set, count_by, is_some, unwrap_or, Option, Some, None}
+use Rattle.std.specs.Prelude.{◌≡◌, ℕ, ◌+◌, ◌-◌, Bool, false, if◌then◌else◌, ◌==◌, List, [], ◌∷◌, ◌++◌, length, take, slice_get, slice_index_or, slice_set, count_by, is_some, unwrap_or, Option, Some, None}
 use Rattle.rws_handles.specs.Prepared.{Prepared, prepared}
 
 pub record Slots : Type 0 where

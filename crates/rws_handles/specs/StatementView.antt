@@ -1,5 +1,5 @@
 -- What a `Statement` stands for, and what is true of its fields.
-use Rattle.std.specs.Prelude.{◌≡◌, ℕ, ◌*◌, ◌^◌, ◌<◌, List, map, take, drop, Option, Some, None}
+use Rattle.std.specs.Prelude.{◌≡◌, ℕ, ◌^◌, ◌<◌, List, map, take, drop, None}
 use Rattle.std.specs.List.{AllByRecursion}
 use Rattle.rws_wire.specs.Numbers.{number_of}
 use Rattle.rws_msgs.specs.ExecuteLayout.{HaveSize}

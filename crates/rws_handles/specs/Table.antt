@@ -1,11 +1,10 @@
 -- The statements of a session, with the ids that they have on its links: what each call makes of them.
-use Rattle.std.specs.Prelude.{◌≡◌, ℕ, ◌+◌, Bool, true, false, not, if◌then◌else◌, ◌==◌, List, [], ◌∷◌, ◌++◌, map, filter, slice_get, slice_set, unwrap_or, Option, Some, None, Result, Ok, Err}
-use Rattle.std.specs.Option.{option_map, option_and_then}
-use Rattle.std.specs.List.{position_from}
+use Rattle.std.specs.Prelude.{ℕ, Bool, true, false, if◌then◌else◌, ◌==◌, List, [], unwrap_or, Option, Some, None, Result, Err}
+use Rattle.std.specs.Option.{option_and_then}
 use Rattle.rws_handles.specs.declared.fault.ExecuteFault.{ExecuteFault}
 use Rattle.rws_handles.specs.declared.fault.ExecuteFault.TheVariants.{UnknownHandle}
-use Rattle.rws_handles.specs.Prepared.{Prepared, closed_later, executed, long_bytes}
-use Rattle.rws_handles.specs.PlainForm.{Plain, plain_form, handle_in, number_in, renumbered}
+use Rattle.rws_handles.specs.Prepared.{Prepared, closed_later, long_bytes}
+use Rattle.rws_handles.specs.PlainForm.{Plain, plain_form, handle_in}
 use Rattle.rws_handles.specs.LinkIds.{Ids}
 use Rattle.rws_handles.specs.Links.{left_all, left_on}
 use Rattle.rws_handles.specs.Slots.{Slots, no_slots, statement_at, updated, without_statement, closed_numbers, without_all}

@@ -1,8 +1,5 @@
-use Rattle.std.proofs.Common.{rules, ◌∙◌, ap}
+use Rattle.std.proofs.Common.{rules}
 use Rattle.std.proofs.lemmas.Fn.{filter_same}
-use Rattle.rws_handles.specs.LinkIds.{Ids}
-use Rattle.std.proofs.Common.{List}
-use Rattle.rws_handles.specs.Links.{without_link}
 use Rattle.rws_handles.proofs.links.LinkList.drop_link.Goals as goal
 
 pub returns : goal.returns

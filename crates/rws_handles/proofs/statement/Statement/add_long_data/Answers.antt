@@ -1,4 +1,4 @@
-use Rattle.std.proofs.Common.{◌≡◌, ℕ, ◌+◌, length, arith}
+use Rattle.std.proofs.Common.{◌≡◌, ◌+◌, length, arith}
 use Rattle.rws_handles.specs.Prepared.{LongData}
 use Rattle.rws_handles.proofs.StatementLemmas.{holds_more, view_more}
 use Rattle.rws_handles.proofs.statement.Statement.add_long_data.Goals as goal

@@ -1,5 +1,4 @@
 use Rattle.std.proofs.Common.{◌≡◌, ◌-◌, ap, sym, ◌∙◌, Some, arith}
-use Rattle.slab.specs.Slab.{Updates}
 use Rattle.rws_handles.specs.Prepared.{Prepared}
 use Rattle.rws_handles.specs.Slots.{is_closed}
 use Rattle.rws_handles.proofs.SlotLemmas.{listed_if, opens}

@@ -1,4 +1,4 @@
-use Rattle.std.proofs.Common.{◌≡◌, ◌≤◌, List, [], ℕ, length, vec_capacity, ap, sym, subst, arith}
+use Rattle.std.proofs.Common.{◌≤◌, List, [], ℕ, length, vec_capacity, ap, sym, subst, arith}
 use Rattle.std.proofs.lemmas.List.Sorted.{IsNonDecreasingBy-from_sort}
 use Rattle.rws_handles.specs.Slots.{Slots, closed_numbers}
 use Rattle.rws_handles.specs.StatementsView.{AreListed, slots_of}
