@@ -6,11 +6,11 @@ use Rattle.rws_token.specs.declared.token.Token.{Token}
 use Rattle.rws_token.specs.declared.token.TokenKind.TheVariants.{Word, SysVar}
 use Rattle.rws_set.specs.Seen.{Seen, is_kind, is_symbol}
 use Rattle.rws_set.specs.Words.{is_on, is_one_of, words, refused_names}
-use Rattle.rws_class.specs.Places.{Place, places, is_primary_call, is_foreign_call}
+use Rattle.rws_class.specs.Places.{Place, places, is_named, is_primary_call, is_foreign_call}
 use Rattle.rws_class.specs.Numbers.{is_unfit}
 use Rattle.rws_class.specs.Rules.{query_class, show_class, change_class, insert_class, define_class, create_class}
 use Rattle.rws_class.specs.Forms.{forms, form_class}
-use Rattle.rws_set.specs.Settings.{is_global, last_part, items_effect}
+use Rattle.rws_set.specs.Settings.{is_no_setting, last_part, items_effect}
 use Rattle.rws_set.specs.declared.setting.Effect.{Effect}
 use Rattle.rws_set.specs.declared.setting.Effect.TheVariants as effect
 use Rattle.rws_class.specs.declared.verb.Verb.{Verb}
@@ -23,12 +23,11 @@ use Rattle.rws_class.specs.declared.class.Class.TheVariants.{Session, Autocommit
 -- a variable that isn't to be touched
 abbrev pub is_refused : Place → Bool
 is_refused p =
-    (is_kind p.this.kind Word && is_on refused_names p.this.bytes)
-    || (is_kind p.this.kind SysVar && is_on refused_names (last_part p.this.bytes))
+    is_named refused_names p.this || (is_kind p.this.kind SysVar && is_on refused_names (last_part p.this.bytes))
 
 -- a value that isn't the session's own, or that a call gives
 abbrev pub names_beyond : Seen → Bool
-names_beyond t = is_one_of (words (codes "SELECT GLOBAL")) t || is_global t
+names_beyond t = is_one_of (words (codes "SELECT GLOBAL")) t || is_no_setting t
 
 abbrev pub is_beyond_session : Place → Bool
 is_beyond_session p = (names_beyond p.this || is_primary_call p) || is_foreign_call p

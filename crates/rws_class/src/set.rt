@@ -9,7 +9,9 @@ ghost use Rattle.rws_class.specs.declared.class.Class.{Class};
 
 use crate::class::Class;
 use crate::window::{Window, is_foreign_call, is_primary_call};
-use rws_set::{Effect, Items, Lexeme, is_global, is_refused_name, is_word, last_part};
+use rws_set::{
+    Effect, Items, Lexeme, is_no_setting, is_refused_name, is_word, last_part, unquoted,
+};
 use rws_token::TokenKind;
 
 /// Whether it is a variable that isn't to be touched.
@@ -18,6 +20,7 @@ fn is_refused(window: &Window<'_>) -> bool
 {
     match window.this.kind {
         TokenKind::Word => is_refused_name(window.this.bytes),
+        TokenKind::Quoted => is_refused_name(unquoted(window.this.bytes)),
         TokenKind::SysVar => is_refused_name(last_part(window.this.bytes)),
         _ => false,
     }
@@ -26,7 +29,7 @@ fn is_refused(window: &Window<'_>) -> bool
 fn names_beyond(lexeme: &Lexeme<'_>) -> bool
     ensures { result ≡ names_beyond (seen lexeme.now) }
 {
-    is_word(lexeme, b"SELECT") || is_word(lexeme, b"GLOBAL") || is_global(lexeme)
+    is_word(lexeme, b"SELECT") || is_word(lexeme, b"GLOBAL") || is_no_setting(lexeme)
 }
 
 /// Whether a value with it isn't the session's own, or comes from a call.

@@ -30,9 +30,10 @@ without_scope name =
     if begins_scope (codes "SESSION.") name then drop 8 name
     else (if begins_scope (codes "LOCAL.") name then drop 6 name else name)
 
--- a system variable with `global.` in front
-abbrev pub is_global : Seen → Bool
-is_global t = is_kind t.kind SysVar && begins_scope (codes "GLOBAL.") (drop 2 t.bytes)
+-- a system variable that isn't one of the session's settings: an answer of a connection or of its server, or a
+-- global value
+abbrev pub is_no_setting : Seen → Bool
+is_no_setting t = is_kind t.kind SysVar && not (is_on setting_names (without_scope (drop 2 t.bytes)))
 
 -- a variable by its name alone
 abbrev pub word_target : Seen → Option Variable

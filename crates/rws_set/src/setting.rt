@@ -3,7 +3,7 @@
 ghost use Rattle.std.specs.Prelude.{◌≡◌, ◌+◌, ◌^◌, ◌<◌, drop, take};
 ghost use Rattle.std.specs.List.{list_any};
 ghost use Rattle.rws_set.specs.Seen.{seen};
-ghost use Rattle.rws_set.specs.Settings.{target_of, named, without_scope, word_target, target, is_scope, is_equals, is_digit, switches_on, switches_off, switch, is_character_set, begins_scope, is_global, last_part_from, last_part, is_backslash, is_mode_symbol, is_mode_part, depth_behind, parts_item, joined};
+ghost use Rattle.rws_set.specs.Settings.{target_of, named, without_scope, word_target, target, is_scope, is_equals, is_digit, switches_on, switches_off, switch, is_character_set, begins_scope, is_no_setting, last_part_from, last_part, is_backslash, is_mode_symbol, is_mode_part, depth_behind, parts_item, joined};
 
 use crate::lexeme::{Lexeme, is_kind, is_symbol, is_word, same_word, unquoted};
 use crate::table::{is_character_set_name, is_setting};
@@ -97,11 +97,11 @@ fn without_scope(name: &[u8]) -> &[u8]
     }
 }
 
-/// Whether it is a system variable with `global.` in front.
-pub fn is_global(lexeme: &Lexeme<'_>) -> bool
-    ensures { result ≡ is_global (seen lexeme.now) }
+/// Whether it is a system variable that isn't one of the session's settings.
+pub fn is_no_setting(lexeme: &Lexeme<'_>) -> bool
+    ensures { result ≡ is_no_setting (seen lexeme.now) }
 {
-    is_kind(lexeme, TokenKind::SysVar) && begins(behind(lexeme.bytes, 2), b"GLOBAL.")
+    is_kind(lexeme, TokenKind::SysVar) && !is_setting(without_scope(behind(lexeme.bytes, 2)))
 }
 
 /// A variable of the session by its name alone.
