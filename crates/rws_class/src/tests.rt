@@ -1,4 +1,4 @@
-// Texts and their classes, each by the rules that docs/STATEMENTS.md tells.
+//! Texts and their classes, each by the rules that docs/STATEMENTS.md tells.
 
 use crate::{Class, classify};
 use std::process::Abort;
