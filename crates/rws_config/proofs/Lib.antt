@@ -7,3 +7,5 @@ pub mod AddressLemmas
 pub mod LeastLemmas
 pub mod DocumentLemmas
 pub mod GivesLemmas
+-- what is read is allowed
+pub mod AllowedLemmas

@@ -1,7 +1,8 @@
 //! Reads a settings file.
 
-ghost use Rattle.std.specs.Prelude.{◌≡◌, ◌⊎◌, None, Some, MatchResult};
+ghost use Rattle.std.specs.Prelude.{◌≡◌, ◌⊎◌, None, Some, IfOk, MatchResult};
 ghost use Rattle.toml.specs.View.{table_view};
+ghost use Rattle.rws_config.specs.Allowed.{IsAllowed};
 ghost use Rattle.rws_config.specs.Settings.{Gives, document_of, few_servers, keys_stand, names_stand, no_key, no_repeat, server_names, settings_in, settings_of, user_names};
 
 use crate::building::config_of;
@@ -91,7 +92,8 @@ fn names_stand(alloc: Global, config: &Config) -> Result<(), ConfigFault>
 
 /// The settings of a file.
 fn settings_in(alloc: Global, file: &Table) -> Result<Config, ConfigFault>
-    ensures { Gives result (settings_in (table_view file.now)) }
+    ensures read { Gives result (settings_in (table_view file.now)) }
+    ensures allowed { IfOk result IsAllowed }
 {
     keys_stand(alloc, file)?;
     let config = config_of(alloc, file)?;
@@ -102,7 +104,8 @@ fn settings_in(alloc: Global, file: &Table) -> Result<Config, ConfigFault>
 /// Reads a settings file, a TOML document (TOML 1.1, tables and arrays at most 80 deep) whose keys docs/SETTINGS.md
 /// lists: the settings, or the first fault.
 pub fn read(alloc: Global, text: &[u8]) -> Result<Config, ConfigFault>
-    ensures { Gives result (settings_of text.now) }
+    ensures read { Gives result (settings_of text.now) }
+    ensures allowed { IfOk result IsAllowed }
 {
     let file = document(alloc, text)?;
     settings_in(alloc, &file)
