@@ -1,12 +1,12 @@
 -- Addresses: what the program reads as one is one, and the other way round.
-use Rattle.std.proofs.Common.{◌≡◌, ◌==◌, ℕ, zero, suc, ◌+◌, ◌^◌, ◌<◌, ◌≤◌, ◌&&◌, ◌||◌, not, nat_le, Bool, true, false, List, [], ◌∷◌, ◌++◌, length, get_or, Result, is_ok, refl, sym, ap, ◌∙◌, subst, arith, slice_index, add-one, one-add}
+use Rattle.std.proofs.Common.{◌≡◌, ◌==◌, ℕ, zero, suc, ◌^◌, ◌<◌, ◌≤◌, ◌&&◌, ◌||◌, not, nat_le, Bool, true, false, List, [], ◌∷◌, ◌++◌, length, get_or, Result, is_ok, refl, sym, ap, ◌∙◌, subst, arith, slice_index, add-one, one-add}
 use Rattle.std.specs.Fmt.{decimal}
 use Rattle.std.specs.List.{after_first, list_any}
 use Rattle.std.specs.Str.{all_ascii_digits}
-use Rattle.std.specs.Str.Parse.{digits_value, ParsesUnsigned}
-use Rattle.std.proofs.lemmas.Str.Parse.{tells_all_ascii_digits, numerals_by_value, parse_plain, IsNumeralModel}
+use Rattle.std.specs.Str.Parse.{AllDigits, digits_value, ParsesUnsigned}
+use Rattle.std.proofs.lemmas.Str.Parse.{digit_from_value, tells_all_ascii_digits, numerals_by_value, parse_plain, IsNumeralModel}
 use Rattle.std.proofs.lemmas.Result.{OkIff-decides}
-use Rattle.std.proofs.lemmas.Fmt.{decimal-digits_value, decimal_digit}
+use Rattle.std.proofs.lemmas.Fmt.{decimal-digits_value, decimal_digit, decimal_is_IsNumeral, first_decimal}
 use Rattle.std.proofs.lemmas.Bool.{and_parts, not-true}
 use Rattle.std.proofs.lemmas.Bool.Decides.{nat_tests}
 use Rattle.rws_config.specs.Address.{IsAddress, is_address, is_port}
@@ -120,3 +120,57 @@ address_is text e =
       least = positive (digits_value 10 digits) (λ zero_. omega (arith, none zero_));
       most = port.small;
     }
+
+-- ---- what is an address is read as one
+
+true_as : (n m : ℕ) → n ≤ m → nat_le n m ≡ true
+true_as n m h = grind (arith, nat_tests)
+
+all_three : (a b c : Bool) → a ≡ true → b ≡ true → c ≡ true → ((a && b) && c) ≡ true
+all_three a b c first second third = rw (first, second, third) refl
+
+-- neither a space nor a colon
+plain_parts : (host : List ℕ) → list_any is_either host ≡ false → (list_any is_space host ≡ false) × (list_any is_colon host ≡ false)
+plain_parts [] plain = (refl, refl)
+plain_parts (byte ∷ bytes) plain =
+    let parts = or_false (is_either byte) (list_any is_either bytes) plain in
+    let here = or_false (is_space byte) (is_colon byte) parts.0 in
+    let rest = plain_parts bytes parts.1 in
+    (rw (here.0, rest.0) refl, rw (here.1, rest.1) refl)
+
+no_space_in_digits : (digits : List ℕ) → AllDigits 10 digits → list_any is_space digits ≡ false
+no_space_in_digits [] all = refl
+no_space_in_digits (digit ∷ digits) all =
+    let range = digit_from_value digit all.0 in
+    let here : is_space digit ≡ false = grind (arith, nat_tests) in
+    rw (here, no_space_in_digits digits all.1) refl
+
+no_space_before_port : (host digits : List ℕ) → list_any is_space host ≡ false → list_any is_space digits ≡ false → list_any is_space (host ++ (58 ∷ digits)) ≡ false
+no_space_before_port [] digits host none = rw none refl
+no_space_before_port (byte ∷ bytes) digits host none =
+    let parts = or_false (is_space byte) (list_any is_space bytes) host in
+    rw (parts.0, no_space_before_port bytes digits parts.1 none) refl
+
+behind_host : (host digits : List ℕ) → list_any is_colon host ≡ false → after_first is_colon (host ++ (58 ∷ digits)) ≡ digits
+behind_host [] digits none = refl
+behind_host (byte ∷ bytes) digits none =
+    let parts = or_false (is_colon byte) (list_any is_colon bytes) none in
+    skips byte (bytes ++ (58 ∷ digits)) parts.0 ∙ behind_host bytes digits parts.1
+
+port_is_read : (port : ℕ) → 1 ≤ port → port ≤ 65535 → is_port (decimal port) ≡ true
+port_is_read port least most =
+    let few : port < 2 ^ 64 = omega arith in
+    let numeral = decimal_is_IsNumeral port few in
+    let first = first_decimal port (omega arith) few in
+    all_three (nat_le 49 (slice_index (decimal port) 0)) (all_ascii_digits (decimal port)) (nat_le (digits_value 10 (decimal port)) 65535)
+    (true_as 49 _ (omega (arith, first))) (own.from (decimal port) numeral.0.1) (true_as _ 65535 (omega (arith, numeral.1)))
+
+spelled_is_read : (host : List ℕ) (port : ℕ) → list_any is_either host ≡ false → 1 ≤ port → port ≤ 65535 → is_address (host ++ (58 ∷ decimal port)) ≡ true
+spelled_is_read host port plain least most =
+    let parts = plain_parts host plain in
+    let few : port < 2 ^ 64 = omega arith in
+    let spaces = no_space_before_port host (decimal port) parts.0 (no_space_in_digits (decimal port) (decimal_is_IsNumeral port few).0.1) in
+    rw (spaces, behind_host host (decimal port) parts.1, port_is_read port least most) refl
+
+pub address_is_read : (text : List ℕ) → IsAddress text → is_address text ≡ true
+address_is_read text a = subst (λ (t : List ℕ). is_address t ≡ true) (sym a.spelled) (spelled_is_read a.host a.port a.plain a.least a.most)

@@ -1,5 +1,5 @@
 -- What is read is allowed.
-use Rattle.std.proofs.Common.{◌≡◌, ◌⊎◌, ℕ, zero, suc, ◌+◌, ◌<◌, ◌≤◌, ◌&&◌, ◌||◌, nat_le, nat_lt, not, Bool, true, false, cond, List, [], ◌∷◌, ◌++◌, length, map, get_or, Option, None, Some, is_some, option_and_then, Result, Ok, Err, IfOk, pos, negsuc, inl, inr, refl, sym, ap, ◌∙◌, subst, arith, codes, lit≤, lit<}
+use Rattle.std.proofs.Common.{◌≡◌, ◌⊎◌, ℕ, zero, suc, ◌<◌, ◌≤◌, ◌||◌, nat_le, nat_lt, Bool, true, false, cond, List, [], ◌∷◌, ◌++◌, length, map, get_or, Option, None, Some, option_and_then, Result, Ok, Err, IfOk, pos, negsuc, inl, inr, refl, sym, ap, ◌∙◌, subst, arith, codes, lit≤, lit<}
 use Rattle.std.proofs.lemmas.List.{length-map}
 use Rattle.std.specs.Option.{unwrap_or}
 use Rattle.std.specs.Result.{result_ok}
@@ -11,7 +11,7 @@ use Rattle.hex.specs.Hex.{decode_sized}
 use Rattle.hex.specs.declared.error.FromHexError.{FromHexError}
 use Rattle.hex.proofs.HexLemmas.{decode_sized-ok, decode_sized-twice, decode_of-ok}
 use Rattle.rws_wire.specs.Reading.{◌>>=◌}
-use Rattle.toml.specs.Data.{Data, string, integer, boolean, float, datetime, array, table as table_value, Items, Members, as_str, as_array, as_table, get_member}
+use Rattle.toml.specs.Data.{Data, string, integer, boolean, float, datetime, array, table as table_value, Items, Members, as_str, as_table, get_member}
 use Rattle.rws_config.specs.declared.limits.Limit.{Limit}
 use Rattle.rws_config.specs.declared.limits.TheConstants.{VERSION, CAUSAL_TIMEOUT_S, PRIMARY_WAIT_MS, REPLAY_MS, REPLAY_ATTEMPTS, REPLAY_BYTES, HISTORY_LIMIT, SESSIONS, COMMAND_BYTES, MONITOR_MS, GTID_DOMAIN, MOST_SERVERS, MOST_LISTEN}
 use Rattle.rws_config.specs.declared.config.Config.{Config}
@@ -23,24 +23,17 @@ use Rattle.rws_config.specs.declared.keys.Kind.TheVariants.{Login, Address, Addr
 use Rattle.rws_config.specs.declared.keys.Place.TheVariants.{Top, Servers, Accounts}
 use Rattle.rws_config.specs.declared.flaws.Flaw.{Flaw}
 use Rattle.rws_config.specs.declared.flaws.Flaw.TheVariants as flaw
-use Rattle.rws_config.specs.Address.{IsAddress, is_address}
+use Rattle.rws_config.specs.Address.{IsAddress}
 use Rattle.rws_config.specs.Allowed.{HasNoZero, IsAllowed, IsStored, IsWithin}
 use Rattle.rws_config.specs.BuiltIn.{built_in}
 use Rattle.rws_config.specs.Keys.{Entry, account_keys, fits, is_address_text, is_table, is_within, list_of, optional, required, server_keys, top_keys}
 use Rattle.rws_config.specs.Values.{account_of, config_of, number_at, number_in, server_of, tables_at, text_at, texts_at}
-use Rattle.rws_config.specs.Settings.{Gives, fault_of, few_servers, flawed, flawed_in, flawed_keys, has_bad_value, is_bad, is_missing, keys_in, keys_stand, least, least_from, lesser, names_stand, no_key, no_repeat, repeated, server_names, settings_in, unless, user_names}
+use Rattle.rws_config.specs.Settings.{Gives, fault_of, few_servers, flawed, flawed_in, flawed_keys, has_bad_value, is_bad, is_missing, keys_stand, least, names_stand, no_key, no_repeat, repeated, server_names, settings_in, unless, user_names}
 use Rattle.rws_config.proofs.AddressLemmas.{address_is}
+use Rattle.rws_config.proofs.LeastLemmas.{none_is_least}
 use Rattle.rws_config.proofs.BuiltInLemmas.{built_in_is_allowed}
 
 -- ---- no flaw
-
-least_of_some : (best : List ℕ) (texts : List (List ℕ)) → (found : List ℕ) × (least_from (Some best) texts ≡ Some found)
-least_of_some best [] = (best, refl)
-least_of_some best (text ∷ texts) = least_of_some (lesser (Some best) text) texts
-
-none_is_least : (texts : List (List ℕ)) → least texts ≡ None → texts ≡ []
-none_is_least [] e = refl
-none_is_least (text ∷ texts) e = let found = least_of_some text texts in let bad : None ≡ Some found.0 = sym e ∙ found.1 in cc
 
 passes_unless : (fault : List ℕ → ConfigFault) (found : Option (List ℕ)) (x : Unit {0}) → unless fault found ≡ Ok x → found ≡ None
 passes_unless fault None x e = refl

@@ -1,8 +1,9 @@
 -- What a settings file is read as: the settings, or the first fault. Kinds of faults are tried one after the other over
 -- the whole file, and of several keys at fault the least by bytes is named.
-use Rattle.std.specs.Prelude.{◌≡◌, ℕ, ◌&&◌, not, nat_lt, Bool, true, false, List, [], ◌∷◌, ◌++◌, length, map, codes, Option, None, Some, is_some, if◌then◌else◌, Result, Ok, Err}
-use Rattle.std.specs.List.{filter, flat_map, list_any}
+use Rattle.std.specs.Prelude.{◌≡◌, ◌≢◌, ℕ, ◌&&◌, not, nat_lt, Bool, false, List, [], ◌∷◌, ◌++◌, length, map, codes, Option, None, Some, is_some, if◌then◌else◌, Result, Ok, Err}
+use Rattle.std.specs.List.{AllByRecursion, filter, flat_map, list_any}
 use Rattle.std.specs.Ordering.{nat_cmp, is_lt}
+use Rattle.std.specs.declared.cmp.Ordering.TheVariants.{Less}
 use Rattle.std.specs.Cmp.Lexicographic.{slice_cmp}
 use Rattle.std.specs.Str.{bytes_eq, is_utf8}
 use Rattle.toml.specs.Data.{Data, Members, no_members, member, get_member}
@@ -34,6 +35,13 @@ least_from best (text ∷ texts) = least_from (Some (lesser best text)) texts
 
 abbrev pub least : List (List ℕ) → Option (List ℕ)
 least texts = least_from None texts
+
+-- it is one of the texts, and none comes before it
+pub record IsLeast (texts : List (List ℕ)) (key : List ℕ) : Type 0 where
+  pub before : List (List ℕ)
+  pub after : List (List ℕ)
+  pub stands : texts ≡ before ++ (key ∷ after)
+  pub least : AllByRecursion (λ text. slice_cmp nat_cmp text key ≢ Less) texts
 
 -- ---- keys at fault
 

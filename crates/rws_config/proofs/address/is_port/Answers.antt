@@ -1,4 +1,4 @@
-use Rattle.std.proofs.Common.{◌≡◌, ◌≤◌, sym, ◌∙◌, arith, slice_index, rules}
+use Rattle.std.proofs.Common.{◌∙◌, arith}
 use Rattle.std.proofs.lemmas.Grind.{common_steps}
 use Rattle.rws_config.proofs.AddressLemmas.{is_port_parsed}
 use Rattle.rws_config.proofs.address.is_port.Goals as goal

@@ -1,4 +1,4 @@
-use Rattle.std.proofs.Common.{◌≡◌, List, ℕ, Some, codes, map, ◌∙◌, rules}
+use Rattle.std.proofs.Common.{◌≡◌, Some, codes, map, ◌∙◌, rules}
 use Rattle.std.specs.List.{filter_map}
 use Rattle.std.proofs.lemmas.Result.{IfOk-weaker}
 use Rattle.toml.specs.declared.value.Value.{the_lemmas}

@@ -1,4 +1,4 @@
-use Rattle.std.proofs.Common.{◌≡◌, sym, ◌∙◌, Some, ap, rules}
+use Rattle.std.proofs.Common.{◌≡◌, Some, rules}
 use Rattle.toml.specs.declared.value.Value.{the_lemmas}
 use Rattle.toml.specs.Data.{array, get_member}
 use Rattle.toml.specs.View.{items_view, table_view}

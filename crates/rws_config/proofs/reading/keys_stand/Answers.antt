@@ -1,4 +1,3 @@
-use Rattle.std.proofs.Common.{◌≡◌}
 use Rattle.rws_wire.specs.Reading.{◌>>=◌}
 use Rattle.toml.specs.View.{table_view}
 use Rattle.rws_config.specs.declared.flaws.Flaw.TheVariants as flaw

@@ -1,4 +1,3 @@
-use Rattle.std.proofs.Common.{◌≡◌}
 use Rattle.rws_wire.specs.Reading.{◌>>=◌}
 use Rattle.rws_config.specs.Settings.{few_servers, no_repeat, server_names, user_names}
 use Rattle.rws_config.proofs.GivesLemmas.{both_pass, first_refuses, second_refuses}
