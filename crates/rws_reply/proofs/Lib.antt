@@ -6,3 +6,7 @@ pub mod RepliesRun
 pub mod RunsAreReplies
 -- what a tracker says
 pub mod ProgressLemmas
+pub mod RoleLemmas
+-- the client's form
+pub mod FitLemmas
+pub mod ClientLemmas

@@ -44,7 +44,7 @@ query_runs (replies.rows front rs p h all e last) = head_runs _ h ∙ rows_run r
 query_runs (replies.rows_more front rs p others h all e more q) = head_runs _ h ∙ rows_run rs _ all ∙ rw (e, more) (query_runs q)
 query_runs (replies.rows_err front rs p {code} h all e) = head_runs _ h ∙ rows_run rs _ all ∙ rw (no_eof_in_err p code e, e) refl
 
-not_zero : (n : ℕ) → 0 < n → (n == 0) ≡ false
+pub not_zero : (n : ℕ) → 0 < n → (n == 0) ≡ false
 not_zero n h = grind (arith, nat_tests)
 
 columns_run : {columns before after : ℕ} {ps : List Payload} → IsPart columns ps before after → proceed (to_columns columns before) ps (run ps) ≡ Ended (Done after)

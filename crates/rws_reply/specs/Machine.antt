@@ -1,5 +1,5 @@
 -- What a tracker does at each payload: the machine that is proved to accept the grammar of `Replies`.
-use Rattle.std.specs.Prelude.{◌==◌, ℕ, ◌-◌, true, List, [], ◌∷◌, Option, Some, None, if◌then◌else◌}
+use Rattle.std.specs.Prelude.{◌==◌, ℕ, ◌-◌, true, List, [], ◌∷◌, Option, Some, None, if◌then◌else◌, find}
 use Rattle.rws_msgs.specs.OkLayout.{ok_status}
 use Rattle.rws_msgs.specs.ErrLayout.{err_code}
 use Rattle.rws_reply.specs.declared.kind.Kind.{Kind}
@@ -11,7 +11,10 @@ use Rattle.rws_reply.specs.declared.awaits.Step.TheVariants.{Goes, Ends, Wrong}
 use Rattle.rws_reply.specs.Payloads.{has_more_results, eof_status, column_count, is_definition, is_row, prepared_counts}
 use Rattle.rws_reply.specs.declared.kind.Outcome.{Outcome}
 use Rattle.rws_reply.specs.declared.kind.Outcome.TheVariants.{Done, Failed}
+use Rattle.rws_reply.specs.declared.role.Role.{Role}
+use Rattle.rws_reply.specs.declared.role.Role.TheVariants as roles
 use Rattle.rws_reply.specs.Replies.{Payload, autocommit}
+use Rattle.rws_reply.specs.Roles.{reads_as}
 
 abbrev pub given : {A : Type 0} → Option A → (A → Step) → Step → Step
 given (Some x) goes otherwise = goes x
@@ -76,3 +79,28 @@ first kinds.Simple = Simple
 first kinds.Query = Query
 first kinds.Prepare = Prepare
 first kinds.FieldList = FieldList
+
+-- ---- what a payload is to a tracker
+
+abbrev pub definition_or_eof : ℕ → List Role
+definition_or_eof left = if left == 0 then roles.Eof ∷ [] else (roles.Definition ∷ [])
+
+-- what may come where a tracker waits so
+abbrev pub expected : Awaits → List Role
+expected Simple = roles.Ok ∷ roles.Err ∷ []
+expected Query = roles.Ok ∷ roles.Err ∷ roles.Count ∷ []
+expected (Definitions left) = definition_or_eof left
+expected Rows = roles.Eof ∷ roles.Err ∷ roles.Row ∷ []
+expected Prepare = roles.Err ∷ roles.Prepared ∷ []
+expected (Parameters left columns) = definition_or_eof left
+expected (Columns left) = definition_or_eof left
+expected FieldList = roles.Err ∷ roles.Eof ∷ roles.Definition ∷ []
+expected Fields = roles.Eof ∷ roles.Definition ∷ []
+
+-- the first of these that the payload can be read as
+abbrev pub role_at : Awaits → Payload → Option Role
+role_at awaits payload = find (λ role. reads_as role payload) (expected awaits)
+
+abbrev pub role_in : Option Awaits → Payload → Option Role
+role_in (Some awaits) payload = role_at awaits payload
+role_in None payload = None

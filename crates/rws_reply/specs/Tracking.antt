@@ -5,8 +5,9 @@ use Rattle.rws_reply.specs.declared.kind.Kind.{Kind}
 use Rattle.rws_reply.specs.declared.kind.Progress.{Progress}
 use Rattle.rws_reply.specs.declared.kind.Progress.TheVariants.{More, Whole}
 use Rattle.rws_reply.specs.declared.awaits.Awaits.{Awaits}
+use Rattle.rws_reply.specs.declared.role.Role.{Role}
 use Rattle.rws_reply.specs.Replies.{Payload}
-use Rattle.rws_reply.specs.Machine.{Standing, Ended, Waits, Stuck, run, first}
+use Rattle.rws_reply.specs.Machine.{Standing, Ended, Waits, Stuck, run, first, role_in}
 
 abbrev pub progress_of : Standing → Option Progress
 progress_of (Waits awaits) = Some More
@@ -29,3 +30,7 @@ waiting Stuck = None
 -- a tracker for a reply of this kind that has taken these payloads
 unfoldable pub tracked : Kind → List Payload → Tracked
 tracked kind payloads = waiting (run payloads (first kind))
+
+-- what this payload is behind these; None where they begin no reply
+unfoldable pub role : Kind → List Payload → Payload → Option Role
+role kind payloads payload = role_in (waiting (run payloads (first kind))) payload

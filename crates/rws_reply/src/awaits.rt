@@ -9,48 +9,48 @@ use crate::{Outcome, payload};
 use rws_msgs::status::AUTOCOMMIT;
 use rws_msgs::{err_code, ok_status};
 
-// What a tracker waits for.
+/// What a tracker waits for.
 #[derive(Clone, Copy)]
 pub enum Awaits {
-    // An OK or an ERR.
+    /// An OK or an ERR.
     Simple,
-    // The first payload of a result of a query.
+    /// The first payload of a result of a query.
     Query,
-    // So many more definitions of columns, and an EOF.
+    /// So many more definitions of columns, and an EOF.
     Definitions(u64),
-    // The rows of a result.
+    /// The rows of a result.
     Rows,
-    // A PrepareOk or an ERR.
+    /// A PrepareOk or an ERR.
     Prepare,
-    // So many more definitions of parameters, and an EOF; then those of so many columns.
+    /// So many more definitions of parameters, and an EOF; then those of so many columns.
     Parameters { left: u16, columns: u16 },
-    // So many more definitions of a prepared statement's columns, and an EOF.
+    /// So many more definitions of a prepared statement's columns, and an EOF.
     Columns(u16),
-    // The first payload of a list of fields.
+    /// The first payload of a list of fields.
     FieldList,
-    // The rest of a list of fields.
+    /// The rest of a list of fields.
     Fields,
 }
 
-// What a payload leads to.
+/// What a payload leads to.
 pub enum Step {
-    // The reply goes on, and this may come next.
+    /// The reply goes on, and this may come next.
     Goes(Awaits),
-    // The reply is whole and ended so.
+    /// The reply is whole and ended so.
     Ends(Outcome),
-    // The payload can't stand here.
+    /// The payload can't stand here.
     Wrong,
 }
 
 impl Step {
-    // The reply is whole, with the status of its last OK or EOF.
+    /// The reply is whole, with the status of its last OK or EOF.
     fn done(status: u16) -> Step
         ensures { result ≡ Ends (Done status) }
     {
         Step::Ends(Outcome::Done { status })
     }
 
-    // The reply is whole, with the code of its ERR.
+    /// The reply is whole, with the code of its ERR.
     fn failed(code: u16) -> Step
         ensures { result ≡ Ends (Failed code) }
     {
@@ -58,6 +58,7 @@ impl Step {
     }
 }
 
+/// Behind an OK or a last EOF of a query: another result, or the end.
 fn result_end(status: u16) -> Step
     ensures { result ≡ behind_result status }
 {
@@ -68,6 +69,7 @@ fn result_end(status: u16) -> Step
     }
 }
 
+/// Behind what tells of a prepared statement's parameters: its columns, or the end.
 fn columns_next(columns: u16, status: u16) -> Step
     ensures { result ≡ to_columns columns status }
 {
@@ -78,6 +80,7 @@ fn columns_next(columns: u16, status: u16) -> Step
     }
 }
 
+/// Behind the first payload of a prepared statement: its parameters, or its columns.
 fn parameters_next(columns: u16, parameters: u16) -> Step
     ensures { result ≡ to_parameters (columns, parameters) }
 {
@@ -91,6 +94,7 @@ fn parameters_next(columns: u16, parameters: u16) -> Step
     }
 }
 
+/// At the only payload of a simple reply.
 fn simple(payload: &[u8]) -> Step
     ensures { result ≡ next Awaits.Simple payload.now }
 {
@@ -103,6 +107,7 @@ fn simple(payload: &[u8]) -> Step
     }
 }
 
+/// At the first payload of a result.
 fn query(payload: &[u8]) -> Step
     ensures { result ≡ next Awaits.Query payload.now }
 {
@@ -117,6 +122,7 @@ fn query(payload: &[u8]) -> Step
     }
 }
 
+/// At the definition of a column, or at the EOF behind the last.
 fn definitions(left: u64, payload: &[u8]) -> Step
     ensures { result ≡ next (Awaits.Definitions left) payload.now }
 {
@@ -132,6 +138,7 @@ fn definitions(left: u64, payload: &[u8]) -> Step
     }
 }
 
+/// At a row, or at what ends the rows.
 fn rows(payload: &[u8]) -> Step
     ensures { result ≡ next Awaits.Rows payload.now }
 {
@@ -146,6 +153,7 @@ fn rows(payload: &[u8]) -> Step
     }
 }
 
+/// At the first payload of the answer to a prepare.
 fn prepare(payload: &[u8]) -> Step
     ensures { result ≡ next Awaits.Prepare payload.now }
 {
@@ -158,6 +166,7 @@ fn prepare(payload: &[u8]) -> Step
     }
 }
 
+/// At the definition of a parameter, or at the EOF behind the last.
 fn parameters(left: u16, columns: u16, payload: &[u8]) -> Step
     ensures { result ≡ next (Awaits.Parameters left columns) payload.now }
 {
@@ -176,6 +185,7 @@ fn parameters(left: u16, columns: u16, payload: &[u8]) -> Step
     }
 }
 
+/// At the definition of a prepared statement's column, or at the EOF behind the last.
 fn columns(left: u16, payload: &[u8]) -> Step
     ensures { result ≡ next (Awaits.Columns left) payload.now }
 {
@@ -191,6 +201,7 @@ fn columns(left: u16, payload: &[u8]) -> Step
     }
 }
 
+/// At the first payload of a list of fields, where alone an ERR may stand.
 fn field_list(payload: &[u8]) -> Step
     ensures { result ≡ next Awaits.FieldList payload.now }
 {
@@ -200,6 +211,7 @@ fn field_list(payload: &[u8]) -> Step
     }
 }
 
+/// At the definition of a field, or at the EOF behind the last.
 fn fields(payload: &[u8]) -> Step
     ensures { result ≡ next Awaits.Fields payload.now }
 {
@@ -212,7 +224,7 @@ fn fields(payload: &[u8]) -> Step
     }
 }
 
-// What one more payload leads to.
+/// What one more payload leads to.
 pub fn next(awaits: Awaits, payload: &[u8]) -> Step
     ensures { result ≡ next awaits payload.now }
 {

@@ -6,13 +6,17 @@
 mod awaits;
 #[cfg(test)]
 mod captured;
+mod client;
 mod kind;
 mod law;
 mod payload;
+mod role;
 #[cfg(test)]
 mod tests;
 mod tracker;
 
+pub use client::client_payload;
 pub use kind::{BadReply, Kind, Outcome, Progress};
-pub use law::{progress_is_exact, replies_end_once};
+pub use law::{client_replies_are_replies, progress_is_exact, replies_end_once, role_is_exact};
+pub use role::Role;
 pub use tracker::ReplyTracker;

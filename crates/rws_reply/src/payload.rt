@@ -7,14 +7,14 @@ use rws_msgs::status::MORE_RESULTS_EXISTS;
 use rws_msgs::{EofMsg, MsgFault, PrepareOk, split_text};
 use rws_wire::split_lenenc;
 
-// Whether another result follows.
+/// Whether another result follows.
 pub fn has_more(status: u16) -> bool
     ensures { result ≡ has_more_results status }
 {
     status & MORE_RESULTS_EXISTS != 0
 }
 
-// The status of an EOF.
+/// The status of an EOF.
 #[tactic(auto, unfolding(crate::specs::Payloads::eof_status))]
 pub fn eof(payload: &[u8]) -> Option<u16>
     ensures { result ≡ eof_status payload.now }
@@ -25,7 +25,7 @@ pub fn eof(payload: &[u8]) -> Option<u16>
     }
 }
 
-// How many columns a result has.
+/// How many columns a result has.
 #[tactic(auto, unfolding(crate::specs::Payloads::column_count))]
 pub fn columns(payload: &[u8]) -> Option<u64>
     ensures { result ≡ column_count payload.now }
@@ -36,7 +36,7 @@ pub fn columns(payload: &[u8]) -> Option<u64>
     }
 }
 
-// Reads over the six texts of a column definition.
+/// Reads over the six texts of a column definition.
 #[tactic(auto, unfolding(crate::specs::Payloads::is_definition))]
 fn six_texts(payload: &[u8]) -> Result<(), MsgFault>
     ensures { is_ok result ≡ is_definition payload.now }
@@ -50,14 +50,14 @@ fn six_texts(payload: &[u8]) -> Result<(), MsgFault>
     Ok(())
 }
 
-// Whether it is a column definition. Only its six texts are looked at.
+/// Whether it is a column definition. Only its six texts are looked at.
 pub fn definition(payload: &[u8]) -> bool
     ensures { result ≡ is_definition payload.now }
 {
     six_texts(payload).is_ok()
 }
 
-// Whether it is a row of a result.
+/// Whether it is a row of a result.
 #[tactic(auto, unfolding(crate::specs::Payloads::is_row))]
 pub fn row(payload: &[u8]) -> bool
     ensures { result ≡ is_row payload.now }
@@ -69,7 +69,7 @@ pub fn row(payload: &[u8]) -> bool
     }
 }
 
-// The numbers of columns and parameters of a prepared statement.
+/// The numbers of columns and parameters of a prepared statement.
 #[tactic(auto, unfolding(crate::specs::Payloads::prepared_counts))]
 pub fn prepared(payload: &[u8]) -> Option<(u16, u16)>
     ensures { result ≡ prepared_counts payload.now }

@@ -4,7 +4,8 @@ ghost use Rattle.std.specs.Prelude.{◌≡◌, List, [], ◌∷◌, ◌++◌};
 ghost use Rattle.std.specs.Result.{result_ok};
 
 use crate::awaits::{Awaits, Step, next};
-use crate::{BadReply, Kind, Progress};
+use crate::role::role_in;
+use crate::{BadReply, Kind, Progress, Role};
 use std::marker::Model;
 
 /// Tells after each payload whether the reply goes on, is whole, or can't be one. It takes no memory.
@@ -13,7 +14,7 @@ use std::marker::Model;
 /// After `Whole` or `BadReply` every further payload is `BadReply`: a new reply begins with a new tracker.
 #[derive(Drop)]
 pub struct ReplyTracker {
-    // None where the reply is whole or bad.
+    /// None where the reply is whole or bad.
     awaits: Option<Awaits>,
 }
 
@@ -29,7 +30,7 @@ impl Model for ReplyTracker {
 impl ReplyTracker {
     ghost use Rattle.rws_reply.specs.declared.kind.Kind.{Kind};
     ghost use Rattle.rws_reply.specs.Replies.{Payload};
-    ghost use Rattle.rws_reply.specs.Tracking.{tracked, progress};
+    ghost use Rattle.rws_reply.specs.Tracking.{tracked, progress, role};
 
     /// A tracker for a reply of this kind, before its first payload.
     #[tactic(auto, unfolding(crate::specs::Tracking::tracked))]
@@ -66,5 +67,13 @@ impl ReplyTracker {
             Step::Ends(outcome) => Ok(Progress::Whole(outcome)),
             Step::Wrong => Err(BadReply),
         }
+    }
+    /// What the next payload of the reply is, without taking it. `None` where it can't come: then `step` answers
+    /// `BadReply`.
+    pub fn role(&self, payload: &[u8]) -> Option<Role>
+        ensures { (kind : Kind) (payloads : List Payload) → self.now ≡ tracked kind payloads
+            → result ≡ role kind payloads payload.now }
+    {
+        role_in(self.awaits, payload)
     }
 }
