@@ -62,7 +62,7 @@ none_from_map : (session : ℕ) (step : Option Item) → option_map {U = Entry} 
 none_from_map session None e = refl
 none_from_map session (Some item) e = absurd cc
 
-rests_each : {config : Config} (run : List Entry) → Each config run → step_of config (hearer run) run ≡ None → (session : ℕ)
+pub rests_each : {config : Config} (run : List Entry) → Each config run → step_of config (hearer run) run ≡ None → (session : ℕ)
     → next config (record_of session run) ≡ None
 rests_each {config} run each quiet session = by_hearer (hearer run) refl quiet
   where
