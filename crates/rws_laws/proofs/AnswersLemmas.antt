@@ -23,6 +23,7 @@ use Rattle.rws_laws.specs.Laws.{Answered, AnsweredInRuns}
 use Rattle.rws_laws.proofs.Sound.{Sent, goes_with_one}
 use Rattle.rws_laws.proofs.SoundLemmas.{legal_sound}
 use Rattle.rws_laws.proofs.EndedLemmas.{ended}
+use Rattle.rws_laws.proofs.AwaitedLemmas.{rests_awaiting}
 
 -- Nothing arrives
 
@@ -73,7 +74,10 @@ rested config past legal e n =
     let behind = neither (due_arrival (links past) past) (due_take config past) all.1 in
     record {
       link = one;
-      sent = λ command p. sent_where past command one.0 (sent_on past) p one.2 one.1 refl sound.sent all.0;
+      sent = λ command p.
+          let on = sent_where past command one.0 (sent_on past) p one.2 one.1 refl sound.sent all.0 ∙ one.2 in
+          let its = rests_awaiting config past legal e n command one.0 p on in
+          (one.0, its.0, one.2, on, its.1);
       client = λ p.
           let none : taking (first_payload config.command_bytes 0 (held config past)) ≡ None = rw p at behind.1 in
           no_take (first_payload config.command_bytes 0 (held config past)) none;

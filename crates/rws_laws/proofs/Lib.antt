@@ -8,4 +8,5 @@ pub mod SoundLemmas
 pub mod CausesLemmas
 -- the law on what a session that rests has answered
 pub mod EndedLemmas
+pub mod AwaitedLemmas
 pub mod AnswersLemmas

@@ -45,7 +45,7 @@ closes_by false true kept k = (reasons.OutcomeUnknown, refl)
 closes_by false false true k = (reasons.SessionState, refl)
 closes_by false false false k = absurd cc
 
-loss_closes : (past : List Item) (link : ℕ) → kept_on past ≡ Some link
+pub loss_closes : (past : List Item) (link : ℕ) → kept_on past ≡ Some link
     → (reason : CloseReason) × (after_loss link past ≡ Closes reason ∷ [])
 loss_closes past link k =
     closes_by (is_link link (told_from past)) (is_link link (sent_on past)) (is_link link (kept_on past)) (rw k (eq-eqb link link refl))

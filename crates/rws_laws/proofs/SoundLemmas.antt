@@ -215,7 +215,7 @@ module _ (config : Config) (past : List Item) (sound : Sound config past) where
   -- A payload of an awaited reply
 
   -- what the link owes where nothing is owed to the client
-  clean : owed past ≡ [] → (e : Exchange) (its : Command)
+  pub clean : owed past ≡ [] → (e : Exchange) (its : Command)
       → e ≡ record { purpose = Asks its; next = e.next; sofar = told past ++ passed (owed past) }
       → e ≡ record { purpose = Asks its; next = e.next; sofar = told past }
   clean o e its is =

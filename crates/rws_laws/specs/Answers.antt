@@ -6,15 +6,18 @@ use Rattle.rws_config.specs.declared.config.Config.{Config}
 use Rattle.rws_config.specs.declared.limits.TheConstants.{SERVER_PAYLOAD}
 use Rattle.rws_record.specs.declared.command.Command.{Command}
 use Rattle.rws_record.specs.Item.{Item}
-use Rattle.rws_record.specs.Values.{held, links, kept_on, Exchange, exchange, link_held, pending, sent_on, is_over}
+use Rattle.rws_record.specs.Item.Purpose.{Asks}
+use Rattle.rws_record.specs.Values.{held, links, kept_on, Exchange, exchange, link_held, pending, sent_on, told, is_over}
 
 -- What stands in a session that goes on and rests. Nothing that came waits for an answer but the command that its server
 -- has, and what the client sent behind it.
 pub record HasAnswered (config : Config) (past : List Item) : Type 0 where
   -- it has its link
   pub link : (link : ℕ) × (links past ≡ link ∷ []) × (kept_on past ≡ Some link)
-  -- a pending command was sent there
-  pub sent : (command : Command) → pending past ≡ Some command → sent_on past ≡ kept_on past
+  -- a pending command was sent there; its reply is awaited, and all that came of it was told
+  pub sent : (command : Command) → pending past ≡ Some command → (link : ℕ) × (number : ℕ)
+      × (kept_on past ≡ Some link) × (sent_on past ≡ Some link)
+      × (exchange link past ≡ Some (record { purpose = Asks command; next = number; sofar = told past }))
   -- where no command is pending, the client's bytes begin with no whole payload and no fault
   pub client : pending past ≡ None → first_payload config.command_bytes 0 (held config past) ≡ Nothing
   -- of a reply that is awaited no whole payload came, and no fault
