@@ -104,8 +104,8 @@ command_caused config payload number past requests.Unknown r taken = tells (payl
 
 pub fault_caused : (config : Config) (fault : WireFault) (past : List Item) → TookFault config fault past
     → Caused config (after_fault fault) past
-fault_caused config (faults.OutOfOrder want got) past taken = tells (want, got, taken, refl) (closes taken)
-fault_caused config (faults.TooLarge length) past taken = tells (length, taken, refl) (closes taken)
+fault_caused config (faults.OutOfOrder want got) past taken = tells (want, got, taken, refl) (closes (past, refl, taken))
+fault_caused config (faults.TooLarge length) past taken = tells (length, taken, refl) (closes (past, refl, taken))
 
 -- A payload of an awaited reply
 

@@ -1,6 +1,6 @@
 -- Why each item of a session's record stands where it stands. This is a second reading of the record: it says what must
 -- have come and what must have been given out below a place, and names no rule by which a session goes on.
-use Rattle.std.specs.Prelude.{◌≡◌, ◌≢◌, ◌⊎◌, ℕ, Bool, true, false, List, [], ◌∷◌, ◌++◌, drop, Option, Some, None, Contains}
+use Rattle.std.specs.Prelude.{◌≡◌, ◌≢◌, ◌⊎◌, ℕ, Bool, true, false, List, [], ◌∷◌, ◌++◌, Option, Some, None, Contains}
 use Rattle.rws_wire.specs.Packets.{number_behind}
 use Rattle.rws_wire.specs.Payloads.{first_payload}
 use Rattle.rws_wire.specs.Payloads.Beginning.{Whole, Faulty}
@@ -8,6 +8,7 @@ use Rattle.rws_wire.specs.declared.fault.WireFault.{WireFault}
 use Rattle.rws_wire.specs.declared.fault.WireFault.TheVariants as faults
 use Rattle.rws_wire.specs.declared.close_reason.CloseReason.TheVariants.{Quit, OutOfOrder, TooLarge, ResultCut, OutcomeUnknown, SessionState}
 use Rattle.rws_wire.specs.declared.drop_cause.DropCause.TheVariants.{BadWire, BadReply, Unasked, End}
+use Rattle.rws_msgs.specs.declared.status.TheConstants.{AUTOCOMMIT}
 use Rattle.rws_reply.specs.declared.kind.Outcome.{Outcome}
 use Rattle.rws_reply.specs.Replies.{Payload, IsReply, Begins}
 use Rattle.rws_reply.specs.Tracking.{progress}
@@ -103,7 +104,7 @@ IsCaused config (Tells number (Passes link command payload None)) past =
     × (number ≡ number_behind_all (told past) command.number)
 -- COM_PING; autocommit is on, and no transaction is open
 IsCaused config (Tells number (Owns status)) past =
-    (payload : Payload) × Took config payload number past × (request_of payload ≡ requests.Ping) × (status ≡ 0x0002)
+    (payload : Payload) × Took config payload number past × (request_of payload ≡ requests.Ping) × (status ≡ AUTOCOMMIT)
 IsCaused config (Tells number (Refuses UnknownCommand)) past =
     (payload : Payload) × Took config payload number past × (request_of payload ≡ requests.Unknown)
 IsCaused config (Tells number (Refuses NotSupported)) past =
@@ -119,8 +120,12 @@ IsCaused config (Sends link (Asks command)) past =
 IsCaused config (Closes Quit) past =
     (payload : Payload) × (number : ℕ) × Took config payload number past × (request_of payload ≡ requests.Quit)
 -- the fault was taken up, and then the client was told
-IsCaused config (Closes (OutOfOrder want got)) past = TookFault config (faults.OutOfOrder want got) (drop 1 past)
-IsCaused config (Closes (TooLarge length)) past = TookFault config (faults.TooLarge length) (drop 1 past)
+IsCaused config (Closes (OutOfOrder want got)) past =
+    (below : List Item) × (past ≡ Puts (Tells 1 (Refuses PacketsOutOfOrder)) ∷ below)
+    × TookFault config (faults.OutOfOrder want got) below
+IsCaused config (Closes (TooLarge length)) past =
+    (below : List Item) × (past ≡ Puts (Tells 1 (Refuses CommandTooLarge)) ∷ below)
+    × TookFault config (faults.TooLarge length) below
 -- the client has a part of the reply that the lost link was giving
 IsCaused config (Closes ResultCut) past =
     (link : ℕ) × (command : Command) × (lost past ≡ Some link) × IsPending config command past
