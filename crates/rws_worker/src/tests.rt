@@ -23,9 +23,11 @@ fn a_ping_is_answered(rt: HostRuntime) -> Result<(), Fail> {
     let mut board = ListBoard::new(alloc, events, CallList::from_slice(alloc, &[])?)?;
     assert_eq!(rt; work_here(alloc, &mut board, &config), WorkEnd::Ended);
     let answered = match board.interactions() {
-        [_, _, Interaction::Took(Action::ToClient { session: 1, bytes })] => {
-            bytes.as_slice() == PONG
-        }
+        [
+            _,
+            _,
+            Interaction::Took(Action::ToClient { session: 1, bytes }),
+        ] => { bytes.as_slice() == PONG }
         _ => false,
     };
     assert!(rt; answered);
