@@ -140,6 +140,16 @@ pub sent_nothing : (config : Config) (past : List Item) (k : Kept) → Is config
 sent_nothing config past k is none =
     sendable_is past (rw is.mirrors at none)
 
+-- the link that a command is sent on, and every other
+
+sent_here : (past : List Item) (link : ℕ) (command : Command)
+    → link_of (Puts (Sends link (Asks command)) ∷ past) link ≡ owing (awaited_of (asked (Asks command))) (link_of past link)
+sent_here past link command = rw (itself link) refl
+
+sent_elsewhere : (past : List Item) (link : ℕ) (command : Command) (other : ℕ) → (other == link) ≡ false
+    → link_of (Puts (Sends link (Asks command)) ∷ past) other ≡ link_of past other
+sent_elsewhere past link command other differ = rw (apart other link differ) refl
+
 pub sent : (config : Config) (past : List Item) (link : ℕ) (old new : Kept) → Is config old past → owed past ≡ []
     → sendable_by old.state.pending old.state.sent_on old.state.kept_on old.state.links ≡ Some link
     → SendsPending link old.state.pending old new → Went config (due_send past) past old new
@@ -156,7 +166,7 @@ sent config past link old new is o some went =
         state = ap (λ (k : Kept). k.state) made
             ∙ ap (λ (state : State). record state { links = at link (owing (awaited_of (asked (Asks s.command)))) state.links; sent_on = Some link }) is.mirrors
             ∙ rw (changed_at past link (owing (awaited_of (asked (Asks s.command)))) (link_of (Puts (Sends link (Asks s.command)) ∷ past))
-            (links past) (links_distinct is.legal) (λ other differ. rw (apart other link differ) refl) (rw (itself link) refl))
+            (links past) (links_distinct is.legal) (sent_elsewhere past link s.command) (sent_here past link s.command))
             (rw o refl);
       };
     }

@@ -137,6 +137,15 @@ hears_no_loss config past link k stands n none =
     let h = hearing config past k stands n in
     hears_open config past (inputs.LinkGone link) false k k h.goes_on (rw (has config past link k false h.is none) refl)
 
+-- the link that bytes come on, and every other
+
+fed_here : (past : List Item) (link : ℕ) (bytes : List ℕ) → link_of (LinkBytes link bytes ∷ past) link ≡ fed bytes (link_of past link)
+fed_here past link bytes = rw (itself link) refl
+
+fed_elsewhere : (past : List Item) (link : ℕ) (bytes : List ℕ) (other : ℕ) → (other == link) ≡ false
+    → link_of (LinkBytes link bytes ∷ past) other ≡ link_of past other
+fed_elsewhere past link bytes other differ = rw (apart other link differ) refl
+
 pub hears_bytes : (config : Config) (past : List Item) (link : ℕ) (bytes : List ℕ) (old new : Kept) → Stands config old past
     → old.state.over ≡ false → true ≡ list_any (λ (other : Link). other.number == link) old.state.links
     → new ≡ record old { state = record old.state { links = at link (fed bytes) old.state.links } }
@@ -155,7 +164,7 @@ hears_bytes config past link bytes old new stands n some now =
             ∙ rw (
               o,
               changed_at past link (fed bytes) (link_of (LinkBytes link bytes ∷ past)) (links past) (links_distinct h.is.legal)
-                  (λ other differ. rw (apart other link differ) refl) (rw (itself link) refl),
+                  (fed_elsewhere past link bytes) (fed_here past link bytes),
             ) refl;
         legal = hears h.is.legal h.rests h.goes_on (contained link (links past) it);
       },
