@@ -1,6 +1,6 @@
 -- Each kind of step, where it was tried on a session that keeps what it is to keep: it makes the item that is due.
-use Rattle.std.proofs.Common.{◌≡◌, ℕ, Bool, true, false, not, List, [], ◌∷◌, ◌++◌, map, refl, sym, ap, subst, ◌∙◌, inl, inr, Option, Some, None, Ok, Err}
-use Rattle.std.specs.Prelude.{◌==◌, ◌&&◌, if◌then◌else◌, is_some, is_none}
+use Rattle.std.proofs.Common.{◌≡◌, ℕ, Bool, true, false, List, [], ◌∷◌, ◌++◌, map, refl, sym, ap, subst, ◌∙◌, inl, inr, Option, Some, None, Ok, Err}
+use Rattle.std.specs.Prelude.{◌==◌, if◌then◌else◌, is_some}
 use Rattle.std.specs.List.{list_any}
 use Rattle.std.proofs.lemmas.List.{append-nil}
 use Rattle.rws_wire.specs.Deframing.{Deframing, HandsOut, next_of, unless_stopped}
@@ -33,7 +33,7 @@ use Rattle.rws_session.specs.declared.owing.Out.{Out}
 use Rattle.rws_session.specs.State.{State, awaited_of, erased, link_of, state_of}
 use Rattle.rws_session.specs.Table.{ReadsFirst, at, item_of, owing}
 use Rattle.rws_session.specs.Kept.{Kept, Is}
-use Rattle.rws_session.specs.Steps.{SendsPending, Tries, Went, action_of, after_out, due_put, gives, owes, owes_for, owes_reply, pending_by, sendable_by, sends, takes}
+use Rattle.rws_session.specs.Steps.{SendsPending, Went, action_of, after_out, due_put, gives, owes, owes_for, owes_reply, pending_by, sendable_by, sends, takes}
 use Rattle.rws_session.proofs.RecordLemmas.{client_sound, links_distinct}
 use Rattle.rws_session.proofs.TableLemmas.{apart, changed_at, has_is, itself}
 use Rattle.rws_session.proofs.MirrorLemmas.{put_is, owing_else}

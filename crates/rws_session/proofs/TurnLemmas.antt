@@ -1,16 +1,15 @@
 -- A whole turn: what is heard, and the steps until the session rests.
-use Rattle.std.proofs.Common.{◌≡◌, ℕ, suc, Bool, true, false, List, [], ◌∷◌, ◌++◌, length, refl, sym, ap, subst, ◌∙◌, arith, Option, Some, None}
-use Rattle.std.specs.Prelude.{Contains, ◌==◌, if◌then◌else◌}
+use Rattle.std.proofs.Common.{◌≡◌, ℕ, Bool, true, false, List, [], ◌∷◌, ◌++◌, refl, sym, ap, subst, ◌∙◌, None}
+use Rattle.std.specs.Prelude.{◌==◌}
 use Rattle.std.specs.List.{list_any}
-use Rattle.std.proofs.Common.{eqb-true, map}
-use Rattle.std.proofs.lemmas.List.{append-nil, append_assoc, map-append}
+use Rattle.std.proofs.Common.{map}
+use Rattle.std.proofs.lemmas.List.{append-nil, append_assoc}
 use Rattle.rws_board.specs.declared.action.Action.{Action}
 use Rattle.rws_config.specs.declared.config.Config.{Config}
 use Rattle.rws_record.specs.Item.{Item}
-use Rattle.rws_record.specs.Item.Item.{ClientBytes, LinkBytes, ClientGone, LinkLost}
+use Rattle.rws_record.specs.Item.Item.{LinkBytes}
 use Rattle.rws_record.specs.Values.{contains, is_over, links}
-use Rattle.rws_record.specs.Rules.{after_loss, next, owed}
-use Rattle.rws_record.specs.Record.{GoesOn, IsInput}
+use Rattle.rws_record.specs.Rules.{after_loss, next}
 use Rattle.rws_record.specs.Record.IsRecord.{steps, hears}
 use Rattle.rws_record.specs.Record.GoesOn.{stays, then as goes_then}
 use Rattle.rws_record.specs.Outputs.{actions_of, outs_of}
@@ -19,11 +18,11 @@ use Rattle.rws_record.proofs.StepLemmas.{rests_owing_nothing}
 use Rattle.rws_session.specs.declared.link.Link.{Link}
 use Rattle.rws_session.specs.declared.input.SessionInput.{SessionInput}
 use Rattle.rws_session.specs.declared.input.SessionInput.TheVariants as inputs
-use Rattle.rws_session.specs.State.{State, erased, link_of, state_of}
+use Rattle.rws_session.specs.State.{State, erased, link_of}
 use Rattle.rws_session.specs.Table.{at, fed}
 use Rattle.rws_session.specs.Kept.{Is, Kept, Stands}
-use Rattle.rws_session.specs.Turning.{Settles, Turns, heard, heard_open}
-use Rattle.rws_session.specs.Steps.{Goes, Hears, Rests, Tries, Went, ends, loses}
+use Rattle.rws_session.specs.Turning.{heard, heard_open}
+use Rattle.rws_session.specs.Steps.{Goes, Hears, Rests, Tries, ends, loses}
 use Rattle.rws_session.proofs.RecordLemmas.{links_distinct}
 use Rattle.rws_session.proofs.TableLemmas.{apart, changed_at, has_is, itself}
 use Rattle.rws_session.proofs.MirrorLemmas.{farewells_are, without_is}
