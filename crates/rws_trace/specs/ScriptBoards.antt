@@ -55,9 +55,11 @@ pub record Ends (old new : ScriptBoardState) (interactions : List Interaction) :
   pub end : new.reader.place.bad_line ≡ None → IsAtEnd new.left
   pub printed : Appends old.taken new.taken (text_of (actions_taken interactions))
 
--- the input failed: the events of the whole lines that were read were given, and all lines of actions were printed
+-- the input failed: the events of the whole lines that were read were given, and all lines of actions were printed; no
+-- bytes are held behind the part of a line that was read last
 pub record InputFails (old new : ScriptBoardState) (interactions : List Interaction) : Type 0 where
   pub rises : Rises old.input_faults new.input_faults
+  pub drained : new.reader.held ≡ []
   pub read : AheadOf old new (ReadsPart old.reader.place new.reader.place (events_given interactions))
   pub printed : Appends old.taken new.taken (text_of (actions_taken interactions))
 
