@@ -2,12 +2,12 @@
 use Rattle.std.proofs.Common.{◌≡◌, ℕ, suc, ◌≤◌, Bool, true, false, ◌&&◌, cond, List, [], ◌∷◌, length, nat_lt, refl, ap, arith}
 use Rattle.std.specs.List.{list_all}
 use Rattle.std.proofs.lemmas.Bool.{ltb-true}
-use Rattle.rws_set.specs.Seen.{Seen}
+use Rattle.rws_token.specs.Lexeme.{Lexeme}
 use Rattle.rws_class.specs.Forms.{Part, Form, fits, reads, form_class}
 use Rattle.rws_class.specs.declared.class.Class.TheVariants.{Other}
 
 -- a statement that reads as a form has as many tokens
-reads-length : (parts : List Part) (ts : List Seen) → reads parts ts ≡ true → length ts ≡ length parts
+reads-length : (parts : List Part) (ts : List Lexeme) → reads parts ts ≡ true → length ts ≡ length parts
 reads-length [] [] same = refl
 reads-length [] (t ∷ ts) same = cc
 reads-length (part ∷ parts) [] same = cc
@@ -20,7 +20,7 @@ reads-length (part ∷ parts) (t ∷ ts) same = go (fits part t) same (reads-len
 abbrev IsShort : ℕ → List Form → Type 0
 IsShort bound forms = list_all (λ form. nat_lt (length form.parts) bound) forms ≡ true
 
-pub form_class-long : (bound : ℕ) (forms : List Form) (ts : List Seen) → IsShort bound forms → bound ≤ length ts → form_class forms ts ≡ Other
+pub form_class-long : (bound : ℕ) (forms : List Form) (ts : List Lexeme) → IsShort bound forms → bound ≤ length ts → form_class forms ts ≡ Other
 form_class-long bound [] ts short long = refl
 form_class-long bound (form ∷ forms) ts short long =
     go (nat_lt (length form.parts) bound) refl (reads form.parts ts) refl short (λ rest. form_class-long bound forms ts rest long)

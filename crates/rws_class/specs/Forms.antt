@@ -2,10 +2,10 @@
 -- without a list of variables.
 use Rattle.std.specs.Prelude.{ℕ, Bool, true, false, ◌&&◌, ◌||◌, if◌then◌else◌, List, [], ◌∷◌, ◌++◌, codes, map}
 use Rattle.rws_token.specs.declared.token.TokenKind.TheVariants.{Word, Str}
-use Rattle.rws_set.specs.Seen.{Seen, is_kind, is_word}
-use Rattle.rws_set.specs.Words.{words}
-use Rattle.rws_set.specs.Settings.{is_character_set}
-use Rattle.rws_class.specs.Places.{is_name}
+use Rattle.rws_token.specs.Lexeme.{Lexeme, is_kind, is_word}
+use Rattle.rws_words.specs.Words.{words}
+use Rattle.rws_set.specs.Values.{is_character_set}
+use Rattle.rws_words.specs.Places.{is_name}
 use Rattle.rws_class.specs.declared.class.Class.{Class}
 use Rattle.rws_class.specs.declared.class.Class.TheVariants.{Session, Begin, BeginReadOnly, Commit, Rollback, TrxLocal, Other}
 
@@ -17,7 +17,7 @@ pub data Part : Type 0 where
   CharacterSet : Part
   Text : Part
 
-abbrev pub fits : Part → Seen → Bool
+abbrev pub fits : Part → Lexeme → Bool
 fits (The text) t = is_word text t
 fits Name t = is_name t
 fits AnyWord t = is_kind t.kind Word
@@ -25,7 +25,7 @@ fits CharacterSet t = is_character_set t
 fits Text t = is_kind t.kind Word || is_kind t.kind Str
 
 -- the tokens are these parts, one for one
-abbrev pub reads : List Part → List Seen → Bool
+abbrev pub reads : List Part → List Lexeme → Bool
 reads [] [] = true
 reads [] (t ∷ ts) = false
 reads (part ∷ parts) [] = false
@@ -37,7 +37,7 @@ pub record Form : Type 0 where
   pub class : Class
 
 -- the class of the first form that the tokens have
-abbrev pub form_class : List Form → List Seen → Class
+abbrev pub form_class : List Form → List Lexeme → Class
 form_class [] ts = Other
 form_class (form ∷ forms) ts = if reads form.parts ts then form.class else form_class forms ts
 

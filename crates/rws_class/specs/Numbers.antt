@@ -3,9 +3,9 @@ use Rattle.std.specs.Prelude.{ℕ, Bool, true, false, not, ◌&&◌, ◌||◌, �
 use Rattle.std.specs.List.{list_all}
 use Rattle.std.specs.Char.{is_ascii_digit, is_ascii_hexdigit}
 use Rattle.rws_token.specs.declared.token.TokenKind.TheVariants.{Number, Exec}
-use Rattle.rws_set.specs.Lists.{is_empty}
-use Rattle.rws_set.specs.Seen.{Seen, is_kind, is_symbol}
-use Rattle.rws_class.specs.Places.{Place, is_next, opens}
+use Rattle.rws_words.specs.Lists.{is_empty}
+use Rattle.rws_token.specs.Lexeme.{Lexeme, is_kind, is_symbol}
+use Rattle.rws_words.specs.Places.{Place, is_next, opens}
 
 abbrev pub is_binary : ℕ → Bool
 is_binary b = b == 48 || b == 49
@@ -37,7 +37,7 @@ abbrev pub is_prefixed : List ℕ → Bool
 is_prefixed [] = false
 is_prefixed (b ∷ bs) = b == 48 && is_radix bs
 
-abbrev pub is_sign : Seen → Bool
+abbrev pub is_sign : Lexeme → Bool
 is_sign t = is_symbol 43 t || is_symbol 45 t
 
 abbrev pub is_plain : Bool → List ℕ → Bool

@@ -3,9 +3,9 @@
 use Rattle.std.specs.Prelude.{Bool, not, ◌&&◌, ◌||◌, if◌then◌else◌, List, [], ◌∷◌, codes}
 use Rattle.std.specs.List.{list_any}
 use Rattle.rws_token.specs.declared.token.TokenKind.TheVariants.{SysVar, Assign}
-use Rattle.rws_set.specs.Seen.{is_kind, is_word, is_symbol}
-use Rattle.rws_set.specs.Words.{is_one_of, words}
-use Rattle.rws_class.specs.Places.{Place, is_next, is_named, opens, is_primary_call, is_foreign_call}
+use Rattle.rws_token.specs.Lexeme.{is_kind, is_word, is_symbol}
+use Rattle.rws_words.specs.Words.{is_one_of, words}
+use Rattle.rws_words.specs.Places.{Place, is_next, is_named, opens, is_primary_call, is_foreign_call}
 use Rattle.rws_class.specs.declared.class.Class.{Class}
 use Rattle.rws_class.specs.declared.class.Class.TheVariants.{Read, PrimaryRead, Write, Ddl, Other}
 

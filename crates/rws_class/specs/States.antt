@@ -1,19 +1,16 @@
 -- What a reader of a statement keeps, as the class that it stands for if these places are left.
-use Rattle.std.specs.Prelude.{ℕ, ◌<◌, ◌≤◌, Bool, true, false, not, ◌&&◌, ◌||◌, if◌then◌else◌, Option, Some, None, is_some, Result, Ok, Err, List, [], ◌∷◌, length, map, filter}
+use Rattle.std.specs.Prelude.{ℕ, Bool, true, false, not, ◌&&◌, ◌||◌, if◌then◌else◌, Option, Some, None, is_some, List, filter}
 use Rattle.std.specs.List.{list_any}
-use Rattle.rws_token.specs.Lexed.{left_of}
-use Rattle.rws_token.specs.declared.token.Unclosed.{Unclosed}
-use Rattle.rws_set.specs.Seen.{Seen, seen}
-use Rattle.rws_class.specs.Places.{Place, places_from, opens, is_foreign_call}
+use Rattle.rws_token.specs.Lexeme.{Lexeme}
+use Rattle.rws_token.specs.Lexemes.{Ahead}
+use Rattle.rws_words.specs.Places.{Place, places_from, tokens_of, opens, is_foreign_call}
+use Rattle.rws_set.specs.States.{items_left}
 use Rattle.rws_class.specs.Numbers.{is_unfit}
 use Rattle.rws_class.specs.Rules.{reaches_out, is_no_query, locks_rows, needs_primary, is_assign, ends_columns, behind_columns, is_no_ddl, behind_source}
-use Rattle.rws_class.specs.Opening.{fixed_left}
-use Rattle.rws_set.specs.Items.{items_left}
-use Rattle.rws_class.specs.Classes.{is_refused, is_beyond_session, effect_class, tokens_of, or_else, statement_class, is_no_semicolon, seen_in}
+use Rattle.rws_class.specs.FirstTokens.{fixed_left}
+use Rattle.rws_class.specs.Classes.{is_refused, effect_class, or_else, statement_class, is_no_semicolon}
 use Rattle.rws_class.specs.declared.class.Class.{Class}
 use Rattle.rws_class.specs.declared.class.Class.TheVariants.{Read, PrimaryRead, Write, Ddl, Refused, Other}
-use Rattle.rws_set.specs.declared.lexeme.Lexeme.{Lexeme}
-use Rattle.rws_class.specs.declared.lexemes.Lexemes.{Lexemes}
 use Rattle.rws_class.specs.declared.reader.Query as query
 use Rattle.rws_class.specs.declared.reader.Insert as insert
 use Rattle.rws_class.specs.declared.reader.Create as create
@@ -47,15 +44,11 @@ abbrev pub calls_out : Bool → Place → Bool
 calls_out before_columns p =
     not ((before_columns && not (ends_columns p)) && opens p) && is_foreign_call p
 
-abbrev pub items_class_left : SetReader → List Place → Class
-items_class_left s ps =
-    if s.beyond_session || list_any is_beyond_session ps then Other
-    else effect_class (items_left s.items (tokens_of ps))
-
 -- a SET that has a fixed form of this class, or none
 abbrev pub set_left : SetReader → Class → List Place → Class
 set_left s form ps =
-    if s.refused || list_any is_refused ps then Refused else or_else form (items_class_left s ps)
+    if s.refused || list_any is_refused ps then Refused
+    else or_else form (effect_class (items_left s.items ps))
 
 abbrev pub show_left : Bool → List Place → Class
 show_left out ps = if out || list_any reaches_out ps then Other else PrimaryRead
@@ -80,7 +73,7 @@ statement_left Unknown form ps = Other
 
 -- how deep in parentheses a statement's items are
 abbrev pub depth_of : Statement → ℕ
-depth_of (Set reader) = reader.items.depth
+depth_of (Set reader) = reader.items.walk.depth
 depth_of _ = 0
 
 abbrev pub begun_left : Option Statement → (List Place → Class) → List Place → Class
@@ -88,7 +81,7 @@ begun_left None form ps = statement_class ps
 begun_left (Some statement) form ps = statement_left statement (form ps) ps
 
 abbrev pub reader_left : Reader → List Place → Class
-reader_left r ps = begun_left r.statement (λ qs. fixed_left r.opening (tokens_of qs)) ps
+reader_left r ps = begun_left r.statement (λ qs. fixed_left r.first_tokens (tokens_of qs)) ps
 
 abbrev pub depth_begun : Option Statement → ℕ
 depth_begun None = 0
@@ -97,34 +90,11 @@ depth_begun (Some statement) = depth_of statement
 abbrev pub reader_depth : Reader → ℕ
 reader_depth r = depth_begun r.statement
 
--- what is left of a text: its tokens, and where they end in a fault
-pub record Ahead : Type 0 where
-  pub seens : List Seen
-  pub fault : Option ℕ
-
-abbrev pub ahead : Lexemes → Ahead
-ahead lexemes =
-    let left = left_of lexemes.tokens in
-    record { seens = map (seen_in lexemes.text.now) left.tokens; fault = left.fault }
-
--- what was left before an answer, if this is left behind it
-abbrev pub before_lexeme : Result (Option Lexeme) Unclosed → Ahead → Ahead
-before_lexeme (Ok (Some lexeme)) left = record { seens = seen lexeme ∷ left.seens; fault = left.fault }
-before_lexeme (Ok None) left = record { seens = []; fault = None }
-before_lexeme (Err unclosed) left = record { seens = []; fault = Some unclosed.at }
-
 abbrev pub places_left : Reader → List Place → Class
 places_left reader ps =
     if list_any is_unfit ps then Other else reader_left reader (filter is_no_semicolon ps)
 
 -- the class of a text of which this token comes next, and then what is ahead
-abbrev pub class_left : Reader → Bool → Seen → Ahead → Class
+abbrev pub class_left : Reader → Bool → Lexeme → Ahead → Class
 class_left reader after_dot t left =
-    if is_some left.fault then Other else places_left reader (places_from after_dot t left.seens)
-
--- the place in the text rises at each token
-abbrev pub RisesAtToken : Lexemes → Result (Option Lexeme) Unclosed → Lexemes → Type 0
-RisesAtToken old (Ok (Some lexeme)) new =
-    (old.tokens.at < new.tokens.at) × (new.tokens.at ≤ length new.text.now)
-RisesAtToken old (Ok None) new = Unit {0}
-RisesAtToken old (Err unclosed) new = Unit {0}
+    if is_some left.fault then Other else places_left reader (places_from after_dot t left.lexemes)

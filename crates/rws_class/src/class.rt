@@ -1,4 +1,4 @@
-// The classes of statements: what a statement may change decides where it is sent.
+//! The classes of statements: what a statement may change decides where it is sent.
 
 /// What a statement may do, as far as routing and replay need to know it.
 #[derive(Clone, Copy, Debug, PartialEq, Eq)]

@@ -1,15 +1,15 @@
-// Statements of a fixed form.
+//! Statements of a fixed form.
 
 ghost use Rattle.std.specs.Prelude.{◌≡◌, map};
-ghost use Rattle.rws_set.specs.Seen.{seen};
+ghost use Rattle.rws_token.specs.Lexeme.{lexeme_of};
 ghost use Rattle.rws_class.specs.Forms.{fits, reads, form_class, forms};
 ghost use Rattle.rws_class.specs.Views.{part_of, forms_of};
 
 use crate::class::Class;
 use crate::form::Part::{AnyWord, CharacterSet, Name, Text, The};
-use crate::window::is_name;
-use rws_set::{Lexeme, is_character_set, is_kind, is_word};
-use rws_token::TokenKind;
+use rws_set::is_character_set;
+use rws_token::{Lexeme, TokenKind, is_kind, is_word};
+use rws_words::is_name;
 
 /// What may stand at one place of a form.
 #[derive(Clone, Copy)]
@@ -23,7 +23,7 @@ pub(crate) enum Part {
 }
 
 fn fits(part: &Part, lexeme: &Lexeme<'_>) -> bool
-    ensures { result ≡ fits (part_of part.now) (seen lexeme.now) }
+    ensures { result ≡ fits (part_of part.now) (lexeme_of lexeme.now) }
 {
     match part {
         Part::The(text) => is_word(lexeme, text),
@@ -36,7 +36,7 @@ fn fits(part: &Part, lexeme: &Lexeme<'_>) -> bool
 
 /// Whether the tokens are these parts, one for one.
 fn reads(parts: &[Part], lexemes: &[Lexeme<'_>]) -> bool
-    ensures { result ≡ reads (map part_of parts.now) (map seen lexemes.now) }
+    ensures { result ≡ reads (map part_of parts.now) (map lexeme_of lexemes.now) }
 {
     match parts {
         [] => lexemes.is_empty(),
@@ -209,7 +209,7 @@ const FORMS: [Form; 24] = [
 
 /// The class of the first form that the tokens have.
 fn form_class(forms: &[Form], lexemes: &[Lexeme<'_>]) -> Class
-    ensures { result ≡ form_class (forms_of forms.now) (map seen lexemes.now) }
+    ensures { result ≡ form_class (forms_of forms.now) (map lexeme_of lexemes.now) }
 {
     let mut rest = forms;
     loop {
@@ -223,7 +223,7 @@ fn form_class(forms: &[Form], lexemes: &[Lexeme<'_>]) -> Class
 
 /// The class of a statement of fixed form.
 pub(crate) fn fixed_class(lexemes: &[Lexeme<'_>]) -> Class
-    ensures { result ≡ form_class forms (map seen lexemes.now) }
+    ensures { result ≡ form_class forms (map lexeme_of lexemes.now) }
 {
     form_class(&FORMS, lexemes)
 }

@@ -1,14 +1,14 @@
-// Numbers that every server reads alike, and texts that no rule looks at.
+//! Numbers that every server reads alike, and texts that no rule looks at.
 
 ghost use Rattle.std.specs.Prelude.{◌≡◌, true};
 ghost use Rattle.std.specs.List.{list_all};
 ghost use Rattle.std.specs.Char.{is_ascii_digit, is_ascii_hexdigit};
 ghost use Rattle.rws_class.specs.Numbers.{is_binary, is_power, is_exponent, is_decimal, is_radix, is_prefixed, is_plain, is_sign, is_odd_number, is_unfit};
-ghost use Rattle.rws_class.specs.Places.{place, is_next};
+ghost use Rattle.rws_words.specs.Places.{is_next};
+ghost use Rattle.rws_words.specs.Windows.{place};
 
-use crate::window::{Window, is_next_symbol, opens};
-use rws_set::{is_kind, is_symbol};
-use rws_token::TokenKind;
+use rws_token::{TokenKind, is_kind, is_symbol};
+use rws_words::{Window, is_next_symbol, is_opened};
 
 fn are_digits(bytes: &[u8]) -> bool
     ensures { result ≡ list_all is_ascii_digit bytes.now }
@@ -102,7 +102,7 @@ fn is_odd_number(window: &Window<'_>) -> bool
     ensures { result ≡ is_odd_number (place window.now) }
 {
     is_kind(&window.this, TokenKind::Number)
-        && (!is_plain(is_signed(window), window.this.bytes) || opens(window))
+        && (!is_plain(is_signed(window), window.this.bytes) || is_opened(window))
 }
 
 /// Whether a text is of class Other because of this token.

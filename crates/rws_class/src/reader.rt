@@ -1,14 +1,15 @@
-// Readers of statements whose class comes from what stands anywhere in them.
+//! Readers of statements whose class comes from what stands anywhere in them.
 
 ghost use Rattle.std.specs.Prelude.{◌≡◌, [], ◌∷◌, List};
-ghost use Rattle.rws_class.specs.Places.{Place, place};
+ghost use Rattle.rws_words.specs.Places.{Place};
+ghost use Rattle.rws_words.specs.Windows.{place};
 ghost use Rattle.rws_class.specs.Rules.{query_class, insert_class, create_class};
 
 use crate::class::Class;
 use crate::rule::{
     ends_columns, is_assign, is_no_ddl, is_no_query, is_source, locks_rows, needs_primary,
 };
-use crate::window::{Window, is_foreign_call, opens};
+use rws_words::{Window, is_opened};
 
 /// A SELECT or WITH.
 #[derive(Clone, Copy)]
@@ -84,14 +85,15 @@ impl Insert {
         ensures { (ps : List Place) → insert_left self.new ps ≡ insert_left self.old (place window.now ∷ ps) }
     {
         self.reaches_out |= is_assign(window) | self.calls_out(window);
-        self.before_columns &= !(ends_columns(window) | opens(window));
+        self.before_columns &= !(ends_columns(window) | is_opened(window));
     }
 
     /// Whether this is a call that isn't known. The parenthesis of the list of columns makes none.
     fn calls_out(&self, window: &Window<'_>) -> bool
         ensures { result ≡ calls_out self.now.before_columns (place window.now) }
     {
-        !(self.before_columns && !ends_columns(window) && opens(window)) && is_foreign_call(window)
+        !(self.before_columns && !ends_columns(window) && is_opened(window))
+            && window.is_foreign_call()
     }
 
     pub(crate) fn class(&self) -> Class
@@ -131,7 +133,7 @@ impl Create {
     pub(crate) fn read(&mut self, window: &Window<'_>)
         ensures { (ps : List Place) → create_left self.new ps ≡ create_left self.old (place window.now ∷ ps) }
     {
-        self.no_ddl |= is_no_ddl(window) | (!self.before_source & is_foreign_call(window));
+        self.no_ddl |= is_no_ddl(window) | (!self.before_source & window.is_foreign_call());
         self.before_source &= !is_source(window);
     }
 

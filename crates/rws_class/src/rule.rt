@@ -1,14 +1,14 @@
-// What the rules on a statement ask of each token.
+//! What the rules on a statement ask of each token.
 
 ghost use Rattle.std.specs.Prelude.{◌≡◌, [], ◌∷◌, codes};
-ghost use Rattle.rws_set.specs.Seen.{seen};
-ghost use Rattle.rws_set.specs.Words.{is_one_of, words};
-ghost use Rattle.rws_class.specs.Places.{place, is_next, is_named};
+ghost use Rattle.rws_token.specs.Lexeme.{lexeme_of};
+ghost use Rattle.rws_words.specs.Words.{is_one_of, words};
+ghost use Rattle.rws_words.specs.Places.{is_next, is_named};
+ghost use Rattle.rws_words.specs.Windows.{place};
 ghost use Rattle.rws_class.specs.Rules.{reaches_out, is_sequence, is_no_query, locks_rows, is_of_server, asks_connection, needs_primary, is_assign, ends_columns, is_no_ddl, is_source};
 
-use crate::window::{Window, is_foreign_call, is_next_symbol, is_next_word, is_primary_call};
-use rws_set::{Lexeme, is_among, is_kind, is_word, unquoted};
-use rws_token::TokenKind;
+use rws_token::{Lexeme, TokenKind, is_kind, is_word, unquoted};
+use rws_words::{Window, is_among, is_next_symbol, is_next_word};
 
 pub(crate) fn is_assign(window: &Window<'_>) -> bool
     ensures { result ≡ is_assign (place window.now) }
@@ -20,7 +20,7 @@ pub(crate) fn is_assign(window: &Window<'_>) -> bool
 pub(crate) fn reaches_out(window: &Window<'_>) -> bool
     ensures { result ≡ reaches_out (place window.now) }
 {
-    is_assign(window) || is_foreign_call(window)
+    is_assign(window) || window.is_foreign_call()
 }
 
 /// The next or the last value of a sequence.
@@ -56,7 +56,7 @@ pub(crate) fn locks_rows(window: &Window<'_>) -> bool
 
 /// Whether it is one of two names, as a word or in quotes.
 fn is_named(lexeme: &Lexeme<'_>, one: &[u8], other: &[u8]) -> bool
-    ensures { result ≡ is_named (one.now ∷ other.now ∷ []) (seen lexeme.now) }
+    ensures { result ≡ is_named (one.now ∷ other.now ∷ []) (lexeme_of lexeme.now) }
 {
     match lexeme.kind {
         TokenKind::Word => is_among(&[one, other], lexeme.bytes),
@@ -85,7 +85,7 @@ fn asks_connection(window: &Window<'_>) -> bool
     ensures { result ≡ asks_connection (place window.now) }
 {
     is_kind(&window.this, TokenKind::SysVar)
-        || is_primary_call(window)
+        || window.is_primary_call()
         || is_word(&window.this, b"SQL_CALC_FOUND_ROWS")
 }
 

@@ -1,16 +1,16 @@
-// A reader of SET.
+//! A reader of SET: whether it touches what isn't to be touched, and what its items do.
 
 ghost use Rattle.std.specs.Prelude.{◌≡◌, ◌+◌, ◌^◌, ◌<◌, ◌≤◌, ◌∷◌, [], List};
-ghost use Rattle.rws_set.specs.Seen.{seen};
-ghost use Rattle.rws_class.specs.Places.{Place, place};
-ghost use Rattle.rws_class.specs.Classes.{is_refused, names_beyond, is_beyond_session, effect_class, or_else, tokens_of, set_class};
+ghost use Rattle.rws_words.specs.Places.{Place, tokens_of};
+ghost use Rattle.rws_words.specs.Windows.{place};
+ghost use Rattle.rws_class.specs.Classes.{is_refused, effect_class, or_else, set_class};
 ghost use Rattle.rws_class.specs.Forms.{form_class, forms};
 ghost use Rattle.rws_class.specs.declared.class.Class.{Class};
 
 use crate::class::Class;
-use crate::window::{Window, is_foreign_call, is_primary_call};
-use rws_set::{Effect, Items, Lexeme, is_global, is_refused_name, is_word, last_part};
-use rws_token::TokenKind;
+use rws_set::{Effect, Items, last_part};
+use rws_token::{TokenKind, unquoted};
+use rws_words::{Window, is_refused_name};
 
 /// Whether it is a variable that isn't to be touched.
 fn is_refused(window: &Window<'_>) -> bool
@@ -18,22 +18,10 @@ fn is_refused(window: &Window<'_>) -> bool
 {
     match window.this.kind {
         TokenKind::Word => is_refused_name(window.this.bytes),
+        TokenKind::Quoted => is_refused_name(unquoted(window.this.bytes)),
         TokenKind::SysVar => is_refused_name(last_part(window.this.bytes)),
         _ => false,
     }
-}
-
-fn names_beyond(lexeme: &Lexeme<'_>) -> bool
-    ensures { result ≡ names_beyond (seen lexeme.now) }
-{
-    is_word(lexeme, b"SELECT") || is_word(lexeme, b"GLOBAL") || is_global(lexeme)
-}
-
-/// Whether a value with it isn't the session's own, or comes from a call.
-fn is_beyond_session(window: &Window<'_>) -> bool
-    ensures { result ≡ is_beyond_session (place window.now) }
-{
-    names_beyond(&window.this) || is_primary_call(window) || is_foreign_call(window)
 }
 
 fn effect_class(effect: Effect) -> Class
@@ -56,46 +44,35 @@ fn or_else(found: Class, class: Class) -> Class
     }
 }
 
+/// A SET, of which some tokens were read.
 #[derive(Clone, Copy)]
-pub(crate) struct SetReader {
+pub(crate) struct SetReader<'a> {
     pub(crate) refused: bool,
-    pub(crate) beyond_session: bool,
-    pub(crate) items: Items,
+    pub(crate) items: Items<'a>,
 }
 
-impl SetReader {
-    ghost use Rattle.rws_class.specs.States.{items_class_left, set_left};
+impl<'a> SetReader<'a> {
+    ghost use Rattle.rws_class.specs.States.{set_left};
 
     /// Begins with the word SET itself.
-    pub(crate) fn begin(window: &Window<'_>) -> SetReader
+    pub(crate) fn begin(window: &Window<'a>) -> SetReader<'a>
         ensures left { (ps : List Place) → set_left result (form_class forms (tokens_of (place window.now ∷ ps))) ps ≡ set_class (place window.now ∷ ps) }
-        ensures depth { result.items.depth ≡ 0 }
+        ensures depth { result.items.walk.depth ≡ 0 }
     {
         SetReader {
             refused: is_refused(window),
-            beyond_session: is_beyond_session(window),
             items: Items::new(),
         }
     }
 
-    pub(crate) fn read(&mut self, window: &Window<'_>)
-        requires { self.old.items.depth + 1 < 2 ^ 64 }
+    /// Goes on with one more token.
+    pub(crate) fn read(&mut self, window: &Window<'a>)
+        requires { self.old.items.walk.depth + 1 < 2 ^ 64 }
         ensures left { (form : Class) (ps : List Place) → set_left self.new form ps ≡ set_left self.old form (place window.now ∷ ps) }
-        ensures depth { self.new.items.depth ≤ self.old.items.depth + 1 }
+        ensures depth { self.new.items.walk.depth ≤ self.old.items.walk.depth + 1 }
     {
         self.refused |= is_refused(window);
-        self.beyond_session |= is_beyond_session(window);
-        self.items.read(&window.this);
-    }
-
-    fn items_class(&self) -> Class
-        ensures { result ≡ items_class_left self.now [] }
-    {
-        if self.beyond_session {
-            Class::Other
-        } else {
-            effect_class(self.items.effect())
-        }
+        self.items.read(window);
     }
 
     /// The class of a SET that has the fixed form of this class, or none.
@@ -105,7 +82,7 @@ impl SetReader {
         if self.refused {
             Class::Refused
         } else {
-            or_else(form, self.items_class())
+            or_else(form, effect_class(self.items.effect()))
         }
     }
 }

@@ -1,23 +1,25 @@
-// A reader of a statement, token by token.
+//! A reader of a statement, token by token.
 
-ghost use Rattle.std.specs.Prelude.{◌≡◌, ◌+◌, ◌^◌, ◌<◌, ◌≤◌, ◌∷◌, [], List, filter};
-ghost use Rattle.rws_class.specs.Places.{Place, place};
-ghost use Rattle.rws_class.specs.Classes.{verb_of, class_by, tokens_of, statement_class, is_no_semicolon};
+ghost use Rattle.std.specs.Prelude.{◌≡◌, ◌+◌, ◌^◌, ◌<◌, ◌≤◌, ◌∷◌, [], List, filter, true};
+ghost use Rattle.rws_words.specs.Places.{Place, tokens_of};
+ghost use Rattle.rws_words.specs.Windows.{place};
+ghost use Rattle.rws_class.specs.Classes.{first_word_of, class_by, statement_class, is_no_semicolon};
 ghost use Rattle.rws_class.specs.Forms.{form_class, forms};
 ghost use Rattle.rws_class.specs.declared.class.Class.{Class};
+ghost use Rattle.rws_class.specs.declared.class.Class.TheVariants.{Other};
 
 use crate::class::Class;
-use crate::opening::Opening;
+use crate::first_tokens::FirstTokens;
+use crate::first_word::{FirstWord, first_word_of};
 use crate::reader::{Create, Insert, Query};
 use crate::rule::{is_no_ddl, reaches_out};
 use crate::set::SetReader;
-use crate::verb::{Verb, verb_of};
-use crate::window::Window;
-use rws_set::is_symbol;
+use rws_token::is_symbol;
+use rws_words::Window;
 
 /// What was read of a statement, as far as its class needs it.
 #[derive(Clone, Copy)]
-pub(crate) enum Statement {
+pub(crate) enum Statement<'a> {
     Query(Query),
     /// Whether it reaches out.
     Show(bool),
@@ -28,33 +30,33 @@ pub(crate) enum Statement {
     /// Whether it is more than a change of definitions.
     Define(bool),
     Fixed,
-    Set(SetReader),
+    Set(SetReader<'a>),
     Unknown,
 }
 
-impl Statement {
+impl<'a> Statement<'a> {
     ghost use Rattle.rws_class.specs.States.{statement_left, depth_of};
 
     /// Begins with the first word.
-    fn begin(window: &Window<'_>) -> Statement
+    fn begin(window: &Window<'a>) -> Statement<'a>
         ensures left { (ps : List Place) → statement_left result (form_class forms (tokens_of (place window.now ∷ ps))) ps
-            ≡ class_by (verb_of (place window.now).this) (place window.now ∷ ps) }
+            ≡ class_by (first_word_of (place window.now).this) (place window.now ∷ ps) }
         ensures depth { depth_of result ≡ 0 }
     {
-        match verb_of(&window.this) {
-            Verb::Query => Statement::Query(Query::begin(window)),
-            Verb::Show => Statement::Show(reaches_out(window)),
-            Verb::Change => Statement::Change(reaches_out(window)),
-            Verb::Insert => Statement::Insert(Insert::begin(window)),
-            Verb::Create => Statement::Create(Create::begin(window)),
-            Verb::Define => Statement::Define(is_no_ddl(window)),
-            Verb::Fixed => Statement::Fixed,
-            Verb::Set => Statement::Set(SetReader::begin(window)),
-            Verb::Unknown => Statement::Unknown,
+        match first_word_of(&window.this) {
+            FirstWord::Query => Statement::Query(Query::begin(window)),
+            FirstWord::Show => Statement::Show(reaches_out(window)),
+            FirstWord::Change => Statement::Change(reaches_out(window)),
+            FirstWord::Insert => Statement::Insert(Insert::begin(window)),
+            FirstWord::Create => Statement::Create(Create::begin(window)),
+            FirstWord::Define => Statement::Define(is_no_ddl(window)),
+            FirstWord::Fixed => Statement::Fixed,
+            FirstWord::Set => Statement::Set(SetReader::begin(window)),
+            FirstWord::Unknown => Statement::Unknown,
         }
     }
 
-    fn read(&mut self, window: &Window<'_>)
+    fn read(&mut self, window: &Window<'a>)
         requires { depth_of self.old + 1 < 2 ^ 64 }
         ensures left { (form : Class) (ps : List Place) → statement_left self.new form ps
             ≡ statement_left self.old form (place window.now ∷ ps) }
@@ -69,6 +71,21 @@ impl Statement {
             Statement::Define(more) => *more |= is_no_ddl(window),
             Statement::Set(set) => set.read(window),
             Statement::Fixed | Statement::Unknown => {}
+        }
+    }
+
+    /// Whether it is of class Other, whatever comes.
+    fn is_other(&self) -> bool
+        ensures { (form : Class) (ps : List Place) → result ≡ true → statement_left self.now form ps ≡ Other }
+    {
+        match self {
+            Statement::Query(query) => query.no_query,
+            Statement::Show(out) | Statement::Change(out) => *out,
+            Statement::Insert(insert) => insert.reaches_out,
+            Statement::Create(create) => create.no_ddl,
+            Statement::Define(more) => *more,
+            Statement::Fixed | Statement::Set(_) => false,
+            Statement::Unknown => true,
         }
     }
 
@@ -94,8 +111,8 @@ impl Statement {
 #[derive(Clone, Copy)]
 pub(crate) struct Reader<'a> {
     /// None as long as no word came.
-    pub(crate) statement: Option<Statement>,
-    pub(crate) opening: Opening<'a>,
+    pub(crate) statement: Option<Statement<'a>>,
+    pub(crate) first_tokens: FirstTokens<'a>,
 }
 
 impl<'a> Reader<'a> {
@@ -107,7 +124,7 @@ impl<'a> Reader<'a> {
     {
         Reader {
             statement: None,
-            opening: Opening::new(),
+            first_tokens: FirstTokens::new(),
         }
     }
 
@@ -120,11 +137,11 @@ impl<'a> Reader<'a> {
             None if is_symbol(&window.this, b'(') => {}
             None => {
                 self.statement = Some(Statement::begin(window));
-                self.opening = Opening::begin(&window.this);
+                self.first_tokens = FirstTokens::begin(&window.this);
             }
             Some(statement) => {
                 statement.read(window);
-                self.opening.read(&window.this);
+                self.first_tokens.read(&window.this);
             }
         }
     }
@@ -141,11 +158,21 @@ impl<'a> Reader<'a> {
         }
     }
 
+    /// Whether the class is Other, whatever comes.
+    pub(crate) fn is_other(&self) -> bool
+        ensures { (ps : List Place) → result ≡ true → reader_left self.now ps ≡ Other }
+    {
+        match &self.statement {
+            Some(statement) => statement.is_other(),
+            None => false,
+        }
+    }
+
     pub(crate) fn class(&self) -> Class
         ensures { result ≡ reader_left self.now [] }
     {
         match &self.statement {
-            Some(statement) => statement.class(self.opening.class()),
+            Some(statement) => statement.class(self.first_tokens.class()),
             None => Class::Other,
         }
     }

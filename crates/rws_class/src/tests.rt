@@ -1,4 +1,4 @@
-// Texts and their classes, each by the rules that docs/STATEMENTS.md tells.
+//! Texts and their classes, each by the rules that docs/STATEMENTS.md tells.
 
 use crate::{Class, classify};
 use std::process::Abort;
@@ -290,7 +290,7 @@ const TRANSACTIONS: [(&str, Class); 25] = [
     ("use db.t", Class::Other),
 ];
 
-const SETTINGS_1: [(&str, Class); 30] = [
+const SETTINGS_1: [(&str, Class); 29] = [
     (
         "set autocommit=1, sql_mode=concat(@@sql_mode,',STRICT_TRANS_TABLES')",
         Class::AutocommitOn,
@@ -310,7 +310,6 @@ const SETTINGS_1: [(&str, Class); 30] = [
     ("set @a = last_insert_id()", Class::Other),
     ("set @a = (select 1)", Class::Other),
     ("set @a := @b := 1", Class::Other),
-    ("set @a = @@global.wait_timeout", Class::Other),
     ("set @a =", Class::Other),
     ("set @a = 1,", Class::Other),
     ("set", Class::Other),
@@ -374,7 +373,21 @@ const SETTINGS_2: [(&str, Class); 30] = [
     ("set password = 'x'", Class::Other),
 ];
 
-const SETTINGS_3: [(&str, Class); 2] = [
+const SETTINGS_3: [(&str, Class); 13] = [
+    ("set @a = @@last_insert_id", Class::Other),
+    ("set @a = @@identity, @b = 1", Class::Other),
+    ("set @a = @@session.warning_count", Class::Other),
+    ("set time_zone = @@hostname", Class::Other),
+    ("set @a = @@global.wait_timeout", Class::Other),
+    ("set sql_mode = @@other.sql_mode", Class::Other),
+    (
+        "set @a = @@wait_timeout, @b = (@@local.time_zone)",
+        Class::Session,
+    ),
+    ("set `sql_log_bin` = 0", Class::Refused),
+    ("set @@session.`Server_Id` = 1", Class::Refused),
+    ("set @a = `gtid_seq_no`", Class::Refused),
+    ("set @a = 'gtid_seq_no'", Class::Session),
     ("set role r", Class::Other),
     (
         "set statement max_statement_time = 1 for select 1",

@@ -16,7 +16,7 @@ use std::alloc::{AllocError, Global};
 const STORED: [u8; 20] =
     *b"\x14\xe6\x55\x67\xab\xdb\x51\x35\xd0\xcf\xd9\xa7\x0b\x30\x32\xc1\x79\xa4\x9e\xe7";
 
-fn listen(alloc: Global) -> Result<TextList, AllocError>
+pub(crate) fn listen(alloc: Global) -> Result<TextList, AllocError>
     ensures { IfOk result (λ listen. listen ≡ built_in.listen) }
 {
     let mut listen = TextList::new(alloc);

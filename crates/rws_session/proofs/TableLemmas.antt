@@ -81,7 +81,7 @@ pub read_behind : (past : List Item) (numbers : List ℕ) (link new : Link) (oth
     → ((number : ℕ) → link ≡ link_of past number → link_fault number past ≡ None → Reads past number None new)
     → {E : Type 0} (result : Result (Option (ℕ × Arrival)) E)
     → ((rest : List ℕ) → others ≡ map (link_of past) rest → AreDistinct rest → AreSound past rest
-        → IfOk result (λ found. ReadsFirst past rest found behind))
+    → IfOk result (λ found. ReadsFirst past rest found behind))
     → IfOk result (λ found. ReadsFirst past numbers found (new ∷ behind))
 read_behind past [] link new others behind are distinct sound reads result later = absurd cc
 read_behind past (number ∷ rest) link new others behind are distinct sound reads result later =
@@ -94,7 +94,7 @@ read_behind past (number ∷ rest) link new others behind are distinct sound rea
     one r None there = (rw r.0 there.0, both r.1 there.1)
     one r (Some found) there =
         let differ : (number == found.0) ≡ false = ne_eqb number found.0 (λ same.
-            let has : contains number rest ≡ true = rw (← same) at there.1 in let not_there = distinct.0 in absurd cc) in
+        let has : contains number rest ≡ true = rw (← same) at there.1 in let not_there = distinct.0 in absurd cc) in
         (rw r.0 there.0, rw differ there.1, both (r.1 ∙ sym (other_link past found.0 found.1 number differ)) there.2)
 
 -- a link of this number is there

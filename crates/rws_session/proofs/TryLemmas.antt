@@ -71,8 +71,8 @@ paid config past old mid new out is first left given =
         let out_of : erased put ≡ Some out = cc in
         let rest : mid.state.owed ≡ map erased others = cc in
         let state : mid.state ≡ owing_else config past (map erased others) =
-            ap (λ (k : Kept). k.state) left ∙ ap (λ (s : State). record s { owed = mid.state.owed }) is.mirrors
-            ∙ ap (owing_else config past) rest in
+        ap (λ (k : Kept). k.state) left ∙ ap (λ (s : State). record s { owed = mid.state.owed }) is.mirrors
+        ∙ ap (owing_else config past) rest in
         record {
           item = Puts put;
           is_due = refl;
@@ -156,7 +156,7 @@ sent config past link old new is o some went =
         state = ap (λ (k : Kept). k.state) made
             ∙ ap (λ (state : State). record state { links = at link (owing (awaited_of (asked (Asks s.command)))) state.links; sent_on = Some link }) is.mirrors
             ∙ rw (changed_at past link (owing (awaited_of (asked (Asks s.command)))) (link_of (Puts (Sends link (Asks s.command)) ∷ past))
-                (links past) (links_distinct is.legal) (λ other differ. rw (apart other link differ) refl) (rw (itself link) refl))
+            (links past) (links_distinct is.legal) (λ other differ. rw (apart other link differ) refl) (rw (itself link) refl))
             (rw o refl);
       };
     }
@@ -229,9 +229,11 @@ arrival_is config past link (arrivals.Reply payload next progress behind) links_
 pub read_nothing : (config : Config) (past : List Item) (old new : Kept) → Is config old past
     → new ≡ record old { state = record old.state { links = new.state.links } }
     → ReadsFirst past (links past) None new.state.links → (due_arrival (links past) past ≡ None) × (new ≡ old)
-read_nothing config past old new is rest read =
-    (read.0, rest ∙ ap (λ (l : List Link). record old { state = record old.state { links = l } })
-        (read.1 ∙ sym (ap (λ (s : State). s.links) is.mirrors)))
+read_nothing config past old new is rest read = (
+  read.0,
+  rest ∙ ap (λ (l : List Link). record old { state = record old.state { links = l } })
+      (read.1 ∙ sym (ap (λ (s : State). s.links) is.mirrors)),
+)
 
 pub read_one : (config : Config) (past : List Item) (old mid new : Kept) (link : ℕ) (found : Arrival) → Is config old past → owed past ≡ []
     → mid ≡ record old { state = record old.state { links = mid.state.links } }
@@ -286,9 +288,10 @@ pub took_nothing : (config : Config) (past : List Item) (old new : Kept) → Is 
     → is_some old.state.pending ≡ false
     → new ≡ record old { state = record old.state { client = new.state.client } } → HandsOut old.state.client 0 (Ok None) new.state.client
     → (due_take config past ≡ None) × (new ≡ old)
-took_nothing config past old new is o n free rest out =
-    (rw (none_pending config past old is free, begins_with config past old Nothing is o n out.0) refl,
-        rest ∙ ap (λ (d : Deframing). record old { state = record old.state { client = d } }) out.1)
+took_nothing config past old new is o n free rest out = (
+  rw (none_pending config past old is free, begins_with config past old Nothing is o n out.0) refl,
+  rest ∙ ap (λ (d : Deframing). record old { state = record old.state { client = d } }) out.1,
+)
 
 -- a command that is taken for this is pending, or none is
 pending_is : (past : List Item) (judgement : Judged) (number : ℕ) → pending_by judgement (pending past) ≡ pending (Takes judgement number ∷ past)

@@ -93,22 +93,28 @@ pub hears_client : (config : Config) (past : List Item) (bytes : List ℕ) (old 
 hears_client config past bytes old new stands n now =
     let h = hearing config past old stands n in
     let o = rests_owing_nothing config past h.rests in
-    hears_open config past (inputs.Client bytes) true old new h.goes_on
-    (ap (λ (k : Kept). k.number) now, ap (λ (k : Kept). k.outs) now, record {
-      mirrors = ap (λ (k : Kept). k.state) now
-          ∙ ap (λ (s : State). record s { client = record s.client { held = s.client.held ++ bytes } }) h.is.mirrors ∙ rw o refl;
-      legal = hears h.is.legal h.rests h.goes_on tt;
-    })
+    hears_open config past (inputs.Client bytes) true old new h.goes_on (
+      ap (λ (k : Kept). k.number) now,
+      ap (λ (k : Kept). k.outs) now,
+      record {
+        mirrors = ap (λ (k : Kept). k.state) now
+            ∙ ap (λ (s : State). record s { client = record s.client { held = s.client.held ++ bytes } }) h.is.mirrors ∙ rw o refl;
+        legal = hears h.is.legal h.rests h.goes_on tt;
+      },
+    )
 
 pub hears_gone : (config : Config) (past : List Item) (old new : Kept) → Stands config old past → old.state.over ≡ false
     → new ≡ record old { state = ends old.state } → Hears config (heard inputs.ClientGone past) past true old new
 hears_gone config past old new stands n now =
     let h = hearing config past old stands n in
-    hears_open config past inputs.ClientGone true old new h.goes_on
-    (ap (λ (k : Kept). k.number) now, ap (λ (k : Kept). k.outs) now, record {
-      mirrors = ap (λ (k : Kept). k.state) now ∙ ap ends h.is.mirrors ∙ rw (farewells_are past (links past)) refl;
-      legal = hears h.is.legal h.rests h.goes_on tt;
-    })
+    hears_open config past inputs.ClientGone true old new h.goes_on (
+      ap (λ (k : Kept). k.number) now,
+      ap (λ (k : Kept). k.outs) now,
+      record {
+        mirrors = ap (λ (k : Kept). k.state) now ∙ ap ends h.is.mirrors ∙ rw (farewells_are past (links past)) refl;
+        legal = hears h.is.legal h.rests h.goes_on tt;
+      },
+    )
 
 -- a link that the session has
 
@@ -140,13 +146,20 @@ hears_bytes config past link bytes old new stands n some now =
     let o = rests_owing_nothing config past h.rests in
     let it = has config past link old true h.is some in
     hears_open config past (inputs.Link link bytes) true old new h.goes_on
-    (rw it (ap (λ (k : Kept). k.number) now, ap (λ (k : Kept). k.outs) now, record {
-      mirrors = ap (λ (k : Kept). k.state) now
-          ∙ ap (λ (s : State). record s { links = at link (fed bytes) s.links }) h.is.mirrors
-          ∙ rw (o, changed_at past link (fed bytes) (link_of (LinkBytes link bytes ∷ past)) (links past) (links_distinct h.is.legal)
-              (λ other differ. rw (apart other link differ) refl) (rw (itself link) refl)) refl;
-      legal = hears h.is.legal h.rests h.goes_on (contained link (links past) it);
-    }))
+    (rw it (
+      ap (λ (k : Kept). k.number) now,
+      ap (λ (k : Kept). k.outs) now,
+      record {
+        mirrors = ap (λ (k : Kept). k.state) now
+            ∙ ap (λ (s : State). record s { links = at link (fed bytes) s.links }) h.is.mirrors
+            ∙ rw (
+              o,
+              changed_at past link (fed bytes) (link_of (LinkBytes link bytes ∷ past)) (links past) (links_distinct h.is.legal)
+                  (λ other differ. rw (apart other link differ) refl) (rw (itself link) refl),
+            ) refl;
+        legal = hears h.is.legal h.rests h.goes_on (contained link (links past) it);
+      },
+    ))
 
 pub hears_loss : (config : Config) (past : List Item) (link : ℕ) (old new : Kept) → Stands config old past
     → old.state.over ≡ false → true ≡ list_any (λ (other : Link). other.number == link) old.state.links
@@ -157,33 +170,12 @@ hears_loss config past link old new stands n some now =
     let o = rests_owing_nothing config past h.rests in
     let it = has config past link old true h.is some in
     hears_open config past (inputs.LinkGone link) true old new h.goes_on
-    (rw it (ap (λ (k : Kept). k.number) now, ap (λ (k : Kept). k.outs) now, record {
-      mirrors = ap (λ (k : Kept). k.state) now ∙ ap (loses link) h.is.mirrors
-          ∙ rw (o, without_is past link (links past), append-nil (map erased (after_loss link past))) refl;
-      legal = hears h.is.legal h.rests h.goes_on (contained link (links past) it);
-    }))
-
--- The turn
-
--- an input was heard, and the session went on until it rested
-pub turned : (config : Config) (item : Option Item) (past : List Item) (old mid new : Kept) → old.outs ≡ []
-    → Hears config item past true old mid
-    → ((start : List Item) → Is config mid start → Rests config start mid new) → Turns config item past old new
-turned config (Some item) past old mid new none h settles =
-    let r = settles (item ∷ past) h.2 in
-    let g = r.goes in
-    (g.number ∙ h.0, record {
-      reached = g.reached;
-      went_on = g.went_on;
-      stands = record { is = g.is; rests = r.rests };
-      given = subst (λ (n : ℕ). actions_of n g.reached ≡ actions_of n (item ∷ past) ++ new.outs) (sym g.number)
-          (g.given ∙ ap (λ (more : List Action). actions_of mid.number (item ∷ past) ++ more)
-              (sym (g.waits ∙ ap (λ (outs : List Action). outs ++ g.more) (h.1 ∙ none))));
-    })
-turned config None past old mid new none h settles = absurd h
-
--- nothing was heard
-pub unturned : (config : Config) (item : Option Item) (past : List Item) (old new : Kept) → Hears config item past false old new
-    → Turns config item past old new
-unturned config (Some item) past old new h = absurd h
-unturned config None past old new h = h
+    (rw it (
+      ap (λ (k : Kept). k.number) now,
+      ap (λ (k : Kept). k.outs) now,
+      record {
+        mirrors = ap (λ (k : Kept). k.state) now ∙ ap (loses link) h.is.mirrors
+            ∙ rw (o, without_is past link (links past), append-nil (map erased (after_loss link past))) refl;
+        legal = hears h.is.legal h.rests h.goes_on (contained link (links past) it);
+      },
+    ))

@@ -6,6 +6,8 @@ mod link;
 mod links;
 mod owing;
 mod session;
+#[cfg(test)]
+mod tests;
 
 pub use input::SessionInput;
 pub use session::Session;

@@ -16,11 +16,22 @@ pub(crate) enum Out {
         outcome: Option<Outcome>,
     },
     /// The proxy's own OK goes to the client.
-    Own { number: u8, status: u16 },
+    Own {
+        number: u8,
+        status: u16,
+    },
     /// An error of the proxy's own goes to the client.
-    Refuse { number: u8, error: ProxyError },
+    Refuse {
+        number: u8,
+        error: ProxyError,
+    },
     /// A link is given up.
-    Drop { link: u64, cause: DropCause },
+    Drop {
+        link: u64,
+        cause: DropCause,
+    },
     /// The session is closed.
-    Close { reason: CloseReason },
+    Close {
+        reason: CloseReason,
+    },
 }

@@ -82,7 +82,13 @@ impl Session {
     ghost use Rattle.rws_session.specs.Steps.{Rests};
 
     /// A session in the command phase, kept on a ready link to a server of the settings.
-    pub fn begin(alloc: Global, number: u32, server: u8, link: u64, config: &Config) -> Result<Session, AllocError>
+    pub fn begin(
+        alloc: Global,
+        number: u32,
+        server: u8,
+        link: u64,
+        config: &Config,
+    ) -> Result<Session, AllocError>
         ensures { IfOk result (λ s. (s.number ≡ number) × (s.outs ≡ []) × Stands config.now s (Began link server ∷ [])) }
     {
         Ok(Session {

@@ -3,8 +3,8 @@ use Rattle.std.proofs.Common.{◌≡◌, ℕ, ◌≤◌, Bool, true, false, ◌&
 use Rattle.std.specs.List.{list_all}
 use Rattle.std.proofs.lemmas.Bool.{leb-true}
 use Rattle.std.proofs.lemmas.List.{take-append-le}
-use Rattle.rws_set.specs.Seen.{same_word}
-use Rattle.rws_set.specs.Settings.{begins_mode, holds_mode}
+use Rattle.rws_token.specs.Lexeme.{same_word}
+use Rattle.rws_set.specs.Modes.{begins_mode, holds_mode}
 
 -- a word at the front stands anywhere
 pub holds_mode-here : (names : List (List ℕ)) (bs : List ℕ) → 1 ≤ length bs → begins_mode names bs ≡ true → holds_mode names bs ≡ true

@@ -1,6 +1,8 @@
-pub mod Lists
-pub mod Seen
-pub mod Words
-pub mod Settings
-pub mod Mode
+pub mod Targets
+pub mod Modes
+pub mod Values
 pub mod Items
+pub mod Views
+pub mod Search
+pub mod Walks
+pub mod States

@@ -1,16 +1,20 @@
-//! The lists of words that the rules on statements know, and what the items of a SET set.
+//! What the items of a SET set, to what, and whether each can be repeated on other connections. Nothing here takes
+//! memory.
 #![tactic(auto)]
 
-mod item;
-mod lexeme;
+mod effect;
+mod items;
 mod mode;
-mod setting;
-mod table;
+mod target;
+mod token;
+mod value;
+mod walk;
 
-pub use item::Items;
-pub use lexeme::{Lexeme, is_kind, is_symbol, is_word, same_word, unquoted};
-pub use setting::{Effect, is_character_set, is_global, last_part};
-pub use table::{is_among, is_key_word, is_primary, is_pure, is_refused_name};
+pub use effect::Effect;
+pub use items::Items;
+pub use target::{Target, Variable};
+pub use token::{is_character_set, last_part};
+pub use walk::{Part, Walk};
 
 #[cfg(test)]
 mod tests;

@@ -1,13 +1,12 @@
-// A search for words that change how a text is cut into tokens, through strings one behind the other.
+//! A search for words that change how a text is cut into tokens, through strings one behind the other.
 
 ghost use Rattle.std.specs.Prelude.{◌≡◌, ◌<◌, ◌++◌, ◌∷◌, [], ℕ, List, drop, length, take};
 ghost use Rattle.std.specs.List.{list_any};
-ghost use Rattle.rws_set.specs.Seen.{same_word};
-ghost use Rattle.rws_set.specs.Words.{mode_words};
-ghost use Rattle.rws_set.specs.Settings.{begins_mode, holds_mode};
+ghost use Rattle.rws_token.specs.Lexeme.{same_word};
+ghost use Rattle.rws_set.specs.Modes.{mode_words, begins_mode, holds_mode};
 
-use crate::lexeme::same_word;
-use crate::setting::front;
+use crate::target::front;
+use rws_token::same_word;
 
 /// Parts of SQL modes that change how a text is cut into tokens, or that stand for such modes.
 const MODE_WORDS: [&[u8]; 7] = [
@@ -72,7 +71,7 @@ pub(crate) struct Search {
 }
 
 impl Search {
-    ghost use Rattle.rws_set.specs.Mode.{found_in};
+    ghost use Rattle.rws_set.specs.Search.{found_in};
 
     pub(crate) fn new() -> Search
         ensures { (bs : List ℕ) → found_in result bs ≡ holds_mode mode_words bs }

@@ -1,9 +1,8 @@
-// What lists of items do, and words with the lists that they are on.
+//! What lists of items do, and tokens that are character sets.
 
-use crate::{
-    Effect, Items, Lexeme, is_character_set, is_key_word, is_primary, is_pure, is_refused_name,
-};
-use rws_token::{TokenKind, Tokens};
+use crate::{Effect, Items, is_character_set};
+use rws_token::{Lexeme, Lexemes, TokenKind, is_symbol};
+use rws_words::Window;
 
 /// What may stand behind SET, and sets variables alone.
 const PLAIN: [&str; 5] = [
@@ -22,7 +21,11 @@ const SWITCHES: [(&str, Effect); 3] = [
 ];
 
 /// What can't be repeated on other connections, or is no list of items.
-const WRONG: [&str; 8] = [
+const WRONG: [&str; 12] = [
+    "@a = (select 1)",
+    "@a = sleep(1)",
+    "@a = last_insert_id()",
+    "@a = @@hostname",
     "",
     "@a = 1,",
     "@a = @b := 1",
@@ -31,20 +34,6 @@ const WRONG: [&str; 8] = [
     "autocommit = 1, autocommit = 0",
     "sql_mode = concat('AN', 'SI')",
     "character_set_client = gbk",
-];
-
-/// A word, and whether it is a word of the language, a harmless function, one that the primary's
-/// connection answers, a refused variable.
-const WORDS: [(&str, [bool; 4]); 6] = [
-    ("Between", [true, false, false, false]),
-    ("count", [false, true, false, false]),
-    ("LAST_INSERT_ID", [false, false, true, false]),
-    (
-        "session_track_system_variables",
-        [false, false, false, true],
-    ),
-    ("sleep", [false, false, false, false]),
-    ("", [false, false, false, false]),
 ];
 
 /// A token, and whether it is a character set of the list.
@@ -57,16 +46,24 @@ const CHARACTER_SETS: [(TokenKind, &str, bool); 4] = [
 
 /// What the items of a text do.
 fn effect_of(text: &[u8]) -> Effect {
-    let mut tokens = Tokens::new(text);
+    let mut lexemes = Lexemes::new(text);
     let mut items = Items::new();
-    while let Ok(Some(token)) = tokens.next() {
-        let lexeme = Lexeme {
-            kind: token.kind,
-            bytes: &text[token.start..token.end],
+    let mut after_dot = false;
+    let mut this = match lexemes.next() {
+        Ok(Some(first)) => first,
+        _ => return items.effect(),
+    };
+    loop {
+        let Ok(next) = lexemes.next() else {
+            return Effect::Wrong;
         };
-        items.read(&lexeme);
+        items.read(&Window::new(after_dot, &this, &next));
+        after_dot = is_symbol(&this, b'.');
+        match next {
+            Some(lexeme) => this = lexeme,
+            None => return items.effect(),
+        }
     }
-    items.effect()
 }
 
 #[test]
@@ -87,22 +84,6 @@ fn items_that_switch_autocommit(rt: HostRuntime) {
 fn items_that_cannot_be_repeated(rt: HostRuntime) {
     for text in &WRONG {
         assert_eq!(rt; effect_of(text.as_bytes()), Effect::Wrong, "{text}");
-    }
-}
-
-fn lists_of(word: &[u8]) -> [bool; 4] {
-    [
-        is_key_word(word),
-        is_pure(word),
-        is_primary(word),
-        is_refused_name(word),
-    ]
-}
-
-#[test]
-fn words_are_on_their_lists(rt: HostRuntime) {
-    for (word, lists) in &WORDS {
-        assert_eq!(rt; lists_of(word.as_bytes()), *lists, "{word}");
     }
 }
 

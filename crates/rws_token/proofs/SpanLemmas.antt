@@ -11,7 +11,7 @@ use Rattle.rws_token.specs.Spans.{Rise, SpansRise, FaultsLieBehind}
 use Rattle.rws_token.specs.declared.end.Run.{Run}
 use Rattle.rws_token.specs.declared.end.Run.TheVariants.{Line, Word as word_run, Number as number_run, Variable as variable_run}
 use Rattle.rws_token.specs.declared.piece.Piece.{Piece}
-use Rattle.rws_token.specs.declared.piece.Piece.TheVariants.{Gap, Lexeme, Endless}
+use Rattle.rws_token.specs.declared.piece.Piece.TheVariants.{Gap, Whole, Endless}
 use Rattle.rws_token.specs.declared.token.Token.{Token}
 use Rattle.rws_token.specs.declared.token.TokenKind.{TokenKind}
 use Rattle.rws_token.specs.declared.token.TokenKind.TheVariants.{Word, Number, Str, Quoted, UserVar, SysVar, Assign, Symbol}
@@ -71,7 +71,7 @@ fits_comment false (Some n) len bound up within = (omega arith, omega arith)
 run_fits : (run : Run) (bs : List ℕ) (opening bound : ℕ) → 1 ≤ opening → opening + length bs ≤ bound → IsWithin (opening + run_len run bs) bound
 run_fits run bs opening bound some up = (omega arith, omega (arith, prefix_len-le-length (goes_on run) bs))
 
-symbol_fits : (bs : List ℕ) → FitsIn (Lexeme Symbol 1) (1 + length bs)
+symbol_fits : (bs : List ℕ) → FitsIn (Whole Symbol 1) (1 + length bs)
 symbol_fits bs = (omega arith, omega arith)
 
 -- each piece has at least one byte, and those at hand
@@ -88,7 +88,7 @@ slash_fits (b ∷ bs) =
 system_fits : (bs : List ℕ) → FitsIn (system_variable bs) (2 + length bs)
 system_fits [] = tt
 system_fits (b ∷ bs) =
-    fits_if (is_word_start b) (Lexeme SysVar (3 + words_len 0 bs)) Endless _ (omega arith, omega (arith, words_within 0 bs)) tt
+    fits_if (is_word_start b) (Whole SysVar (3 + words_len 0 bs)) Endless _ (omega arith, omega (arith, words_within 0 bs)) tt
 
 at_fits : (bs : List ℕ) → FitsIn (behind_at bs) (1 + length bs)
 at_fits [] = symbol_fits []
@@ -98,16 +98,16 @@ at_fits (b ∷ bs) =
     let system = subst (FitsIn (system_variable bs)) same (system_fits bs) in
     let named = fits_closed UserVar 2 (enclosed_end b false 0 bs) _ bound (omega arith) (omega arith) (enclosed_within b false 0 bs) in
     let variable = run_fits variable_run bs 2 bound (omega arith) (omega arith) in
-    fits_if (b == 64) _ _ _ system (fits_if (is_quote b) _ _ _ named (fits_if (is_word_start b) (Lexeme UserVar (2 + run_len variable_run bs)) _ _ variable (symbol_fits (b ∷ bs))))
+    fits_if (b == 64) _ _ _ system (fits_if (is_quote b) _ _ _ named (fits_if (is_word_start b) (Whole UserVar (2 + run_len variable_run bs)) _ _ variable (symbol_fits (b ∷ bs))))
 
 colon_fits : (bs : List ℕ) → FitsIn (behind_colon bs) (1 + length bs)
 colon_fits [] = symbol_fits []
-colon_fits (b ∷ bs) = fits_if (b == 61) (Lexeme Assign 2) _ _ (omega arith, omega arith) (symbol_fits (b ∷ bs))
+colon_fits (b ∷ bs) = fits_if (b == 61) (Whole Assign 2) _ _ (omega arith, omega arith) (symbol_fits (b ∷ bs))
 
 dot_fits : (bs : List ℕ) → FitsIn (behind_dot bs) (1 + length bs)
 dot_fits [] = symbol_fits []
 dot_fits (b ∷ bs) =
-    fits_if (is_ascii_digit b) (Lexeme Number (2 + run_len number_run bs)) _ _ (run_fits number_run bs 2 _ (omega arith) (omega arith)) (symbol_fits (b ∷ bs))
+    fits_if (is_ascii_digit b) (Whole Number (2 + run_len number_run bs)) _ _ (run_fits number_run bs 2 _ (omega arith) (omega arith)) (symbol_fits (b ∷ bs))
 
 piece_fits : (b : ℕ) (bs : List ℕ) → FitsIn (piece_at b bs) (1 + length bs)
 piece_fits b bs =
@@ -115,8 +115,8 @@ piece_fits b bs =
     let run = λ (run : Run). run_fits run bs 1 bound (omega arith) (omega arith) in
     let quoted = λ (kind : TokenKind). fits_closed kind 1 (enclosed_end b false 0 bs) _ bound (omega arith) (omega arith) (enclosed_within b false 0 bs) in
     fits_if (is_white b) (Gap 1) _ _ (omega arith, omega arith)
-    (fits_if (is_word_start b) (Lexeme Word (1 + run_len word_run bs)) _ _ (run word_run)
-    (fits_if (is_ascii_digit b) (Lexeme Number (1 + run_len number_run bs)) _ _ (run number_run)
+    (fits_if (is_word_start b) (Whole Word (1 + run_len word_run bs)) _ _ (run word_run)
+    (fits_if (is_ascii_digit b) (Whole Number (1 + run_len number_run bs)) _ _ (run number_run)
     (fits_if (b == 39 || b == 34) _ _ _ (quoted Str)
     (fits_if (b == 96) _ _ _ (quoted Quoted)
     (fits_if (b == 35) (Gap (1 + run_len Line bs)) _ _ (run Line)
@@ -142,7 +142,7 @@ ahead_follow from at to len (Gap n) behind before is_to fits rest =
       rise_from from (at + n) _ to up left.0,
       λ k is_fault. let fault = left.1 k is_fault in (rise_from from (at + n) _ k up fault.0, fault.1),
     )
-ahead_follow from at to len (Lexeme kind n) behind before is_to fits rest =
+ahead_follow from at to len (Whole kind n) behind before is_to fits rest =
     let left = rest (at + n) (n - 1) (omega (arith, fits.1)) (omega (arith, fits.0)) in
     let some : at < at + n = omega (arith, fits.0) in (
       (before, some, left.0),

@@ -2,7 +2,7 @@
 use Rattle.std.specs.Prelude.{◌≡◌, ℕ, zero, suc, ◌+◌, ◌-◌, ◌≤◌, ◌<◌, Option, Some, None, Result, Ok, Err, List, [], ◌∷◌, length, drop}
 use Rattle.rws_token.specs.Piece.{piece_at}
 use Rattle.rws_token.specs.declared.piece.Piece.{Piece}
-use Rattle.rws_token.specs.declared.piece.Piece.TheVariants.{Gap, Lexeme, Endless}
+use Rattle.rws_token.specs.declared.piece.Piece.TheVariants.{Gap, Whole, Endless}
 use Rattle.rws_token.specs.declared.token.Token.{Token}
 use Rattle.rws_token.specs.declared.token.Unclosed.{Unclosed}
 
@@ -14,7 +14,7 @@ pub record Lexed : Type 0 where
 -- a piece at a place, and then what the bytes behind its first one give, but for those that it takes
 abbrev pub follow : ℕ → Piece → (ℕ → Lexed) → Lexed
 follow at (Gap n) behind = behind (n - 1)
-follow at (Lexeme kind n) behind =
+follow at (Whole kind n) behind =
     let left = behind (n - 1) in
     record { tokens = record { kind = kind; start = at; end = at + n } ∷ left.tokens; fault = left.fault }
 follow at Endless behind = record { tokens = []; fault = Some at }
@@ -30,13 +30,13 @@ abbrev pub lexed_of : List ℕ → Lexed
 lexed_of text = lexed_from 0 0 text
 
 -- a text that is read, and the place up to which it was read
-pub record Reading : Type 0 where
+pub record Progress : Type 0 where
   pub text : List ℕ
   pub at : ℕ
 
 -- what is left to read
-abbrev pub left_of : Reading → Lexed
-left_of reading = lexed_from 0 reading.at (drop reading.at reading.text)
+abbrev pub left_of : Progress → Lexed
+left_of progress = lexed_from 0 progress.at (drop progress.at progress.text)
 
 -- what was left before an answer, if this is left behind it
 abbrev pub before_answer : Result (Option Token) Unclosed → Lexed → Lexed
@@ -58,7 +58,7 @@ LiesIn at end (Err unclosed) = Unit {0}
 
 -- A token lies behind the place that was reached, and its end is the place reached now. Without a token
 -- the place stays.
-abbrev pub Moves : Reading → Result (Option Token) Unclosed → Reading → Type 0
+abbrev pub Moves : Progress → Result (Option Token) Unclosed → Progress → Type 0
 Moves old (Ok (Some token)) new =
     (old.at ≤ token.start) × (token.start < token.end) × (token.end ≡ new.at) × (new.at ≤ length new.text)
 Moves old (Ok None) new = new.at ≡ old.at

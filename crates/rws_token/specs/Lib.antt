@@ -4,3 +4,5 @@ pub mod Grammar
 pub mod Piece
 pub mod Lexed
 pub mod Spans
+pub mod Lexeme
+pub mod Lexemes

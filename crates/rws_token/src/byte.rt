@@ -1,4 +1,4 @@
-// The classes of bytes.
+//! The classes of bytes.
 
 ghost use Rattle.std.specs.Prelude.{◌≡◌};
 ghost use Rattle.rws_token.specs.Bytes.{is_white, is_word_byte, is_word_start, is_number_byte, is_variable_byte, ends_dashes};

@@ -1,5 +1,5 @@
-// Where what has begun ends. Each function takes the bytes behind an opening, and gives how many of
-// them belong to it.
+//! Where what has begun ends. Each function takes the bytes behind an opening, and gives how many of
+//! them belong to it.
 
 ghost use Rattle.std.specs.Prelude.{◌≡◌, ◌≤◌, false, length, IfSome};
 ghost use Rattle.rws_token.specs.Ends.{goes_on, run_len, begins_with, escapes_next, enclosed_end, comment_end, begins_word, words_len};

@@ -1,4 +1,4 @@
-// Laws on the definitions of tokens.
+//! Laws on the definitions of tokens.
 
 ghost use Rattle.rws_token.specs.Grammar.{EndsByGrammar, CommentsEndByGrammar};
 ghost use Rattle.rws_token.specs.Spans.{SpansRise, FaultsLieBehind};

@@ -1,4 +1,4 @@
-// What stands at the front of a text: a token, white space, or a comment.
+//! What stands at the front of a text: a token, white space, or a comment.
 
 ghost use Rattle.std.specs.Prelude.{◌≡◌, ◌+◌, ◌≤◌, false, length};
 ghost use Rattle.rws_token.specs.Ends.{enclosed_end, comment_end};
@@ -13,7 +13,8 @@ use crate::token::TokenKind;
 pub(crate) enum Piece {
     /// White space, or a comment that no server executes.
     Gap(usize),
-    Lexeme(TokenKind, usize),
+    /// A token, from its first byte to its last.
+    Whole(TokenKind, usize),
     /// Something begins here that doesn't end.
     Endless,
 }
@@ -27,10 +28,10 @@ pub(crate) fn piece_at(byte: u8, behind: &[u8]) -> Piece
         return Piece::Gap(1);
     }
     if is_word_start(byte) {
-        return Piece::Lexeme(TokenKind::Word, 1 + run_len(Run::Word, behind));
+        return Piece::Whole(TokenKind::Word, 1 + run_len(Run::Word, behind));
     }
     if byte.is_ascii_digit() {
-        return Piece::Lexeme(TokenKind::Number, 1 + run_len(Run::Number, behind));
+        return Piece::Whole(TokenKind::Number, 1 + run_len(Run::Number, behind));
     }
     match byte {
         b'\'' | b'"' => enclosed(TokenKind::Str, 1, byte, behind),
@@ -41,7 +42,7 @@ pub(crate) fn piece_at(byte: u8, behind: &[u8]) -> Piece
         b'@' => behind_at(behind),
         b':' => behind_colon(behind),
         b'.' => behind_dot(behind),
-        _ => Piece::Lexeme(TokenKind::Symbol, 1),
+        _ => Piece::Whole(TokenKind::Symbol, 1),
     }
 }
 
@@ -53,7 +54,7 @@ fn enclosed(kind: TokenKind, opening: usize, quote: u8, behind: &[u8]) -> Piece
     ensures within { FitsIn result (opening + length behind.now) }
 {
     match enclosed_end(quote, behind) {
-        Some(n) => Piece::Lexeme(kind, opening + n),
+        Some(n) => Piece::Whole(kind, opening + n),
         None => Piece::Endless,
     }
 }
@@ -73,7 +74,7 @@ fn behind_dash(bytes: &[u8]) -> Piece
 {
     match bytes {
         [b'-', behind @ ..] if dashes_end(behind) => Piece::Gap(2 + run_len(Run::Line, behind)),
-        _ => Piece::Lexeme(TokenKind::Symbol, 1),
+        _ => Piece::Whole(TokenKind::Symbol, 1),
     }
 }
 
@@ -83,7 +84,7 @@ fn is_executable(behind: &[u8]) -> bool
 {
     match behind {
         [b'!', ..] => true,
-        [b'M', after @ ..] => begins_with(b'!', after),
+        [b'M', rest @ ..] => begins_with(b'!', rest),
         _ => false,
     }
 }
@@ -94,7 +95,7 @@ fn comment(behind: &[u8]) -> Piece
     ensures within { FitsIn result (2 + length behind.now) }
 {
     match comment_end(behind) {
-        Some(n) if is_executable(behind) => Piece::Lexeme(TokenKind::Exec, 2 + n),
+        Some(n) if is_executable(behind) => Piece::Whole(TokenKind::Exec, 2 + n),
         Some(n) => Piece::Gap(2 + n),
         None => Piece::Endless,
     }
@@ -106,7 +107,7 @@ fn behind_slash(bytes: &[u8]) -> Piece
 {
     match bytes {
         [b'*', behind @ ..] => comment(behind),
-        _ => Piece::Lexeme(TokenKind::Symbol, 1),
+        _ => Piece::Whole(TokenKind::Symbol, 1),
     }
 }
 
@@ -117,7 +118,7 @@ fn system_variable(bytes: &[u8]) -> Piece
 {
     match bytes {
         [first, behind @ ..] if is_word_start(*first) => {
-            Piece::Lexeme(TokenKind::SysVar, 3 + words_len(behind))
+            Piece::Whole(TokenKind::SysVar, 3 + words_len(behind))
         }
         _ => Piece::Endless,
     }
@@ -137,9 +138,9 @@ fn behind_at(bytes: &[u8]) -> Piece
         [b'@', behind @ ..] => system_variable(behind),
         [quote, behind @ ..] if is_quote(*quote) => enclosed(TokenKind::UserVar, 2, *quote, behind),
         [first, behind @ ..] if is_word_start(*first) => {
-            Piece::Lexeme(TokenKind::UserVar, 2 + run_len(Run::Variable, behind))
+            Piece::Whole(TokenKind::UserVar, 2 + run_len(Run::Variable, behind))
         }
-        _ => Piece::Lexeme(TokenKind::Symbol, 1),
+        _ => Piece::Whole(TokenKind::Symbol, 1),
     }
 }
 
@@ -148,8 +149,8 @@ fn behind_colon(bytes: &[u8]) -> Piece
     ensures within { FitsIn result (1 + length bytes.now) }
 {
     match bytes {
-        [b'=', ..] => Piece::Lexeme(TokenKind::Assign, 2),
-        _ => Piece::Lexeme(TokenKind::Symbol, 1),
+        [b'=', ..] => Piece::Whole(TokenKind::Assign, 2),
+        _ => Piece::Whole(TokenKind::Symbol, 1),
     }
 }
 
@@ -159,8 +160,8 @@ fn behind_dot(bytes: &[u8]) -> Piece
 {
     match bytes {
         [digit, behind @ ..] if digit.is_ascii_digit() => {
-            Piece::Lexeme(TokenKind::Number, 2 + run_len(Run::Number, behind))
+            Piece::Whole(TokenKind::Number, 2 + run_len(Run::Number, behind))
         }
-        _ => Piece::Lexeme(TokenKind::Symbol, 1),
+        _ => Piece::Whole(TokenKind::Symbol, 1),
     }
 }

@@ -1,4 +1,4 @@
-// Texts and the kinds of their tokens, and places where a text doesn't end what it began.
+//! Texts and the kinds of their tokens, and places where a text doesn't end what it began.
 
 use crate::{TokenKind, Tokens, Unclosed};
 

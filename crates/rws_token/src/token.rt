@@ -1,4 +1,4 @@
-// What a text is cut into: kinds, and places in the text.
+//! What a text is cut into: kinds, and places in the text.
 
 /// The kinds of tokens.
 #[derive(Clone, Copy, Debug, PartialEq, Eq)]

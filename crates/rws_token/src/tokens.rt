@@ -1,4 +1,4 @@
-// The tokens of a text, one after the other.
+//! The tokens of a text, one after the other.
 
 ghost use Rattle.std.specs.Prelude.{◌≡◌, ◌+◌, ◌^◌, ◌<◌, length};
 ghost use Rattle.rws_token.specs.Lexed.{lexed_from, lexed_behind, before_answer, LiesIn};
@@ -16,9 +16,9 @@ pub struct Tokens<'a> {
 
 impl<'a> Model for Tokens<'a> {
     ghost use Rattle.std.specs.Prelude.{◌≤◌, length};
-    ghost use Rattle.rws_token.specs.Lexed.{Reading};
+    ghost use Rattle.rws_token.specs.Lexed.{Progress};
 
-    ghost Value = { Reading };
+    ghost Value = { Progress };
 
     ghost view = { λ t. record { text = t.text.now; at = t.at } };
 
@@ -66,7 +66,7 @@ fn next_token(bytes: &[u8], at: usize) -> Result<Option<Token>, Unclosed>
                     rest = rest.split_at(n).1;
                     start += n;
                 }
-                Piece::Lexeme(kind, n) => {
+                Piece::Whole(kind, n) => {
                     let end = start + n;
                     return Ok(Some(Token { kind, start, end }));
                 }

@@ -1,12 +1,12 @@
 -- How reading goes on from call to call.
-use Rattle.std.proofs.Common.{◌≡◌, ◌≢◌, ℕ, ◌<◌, ◌++◌, List, [], ◌∷◌, length, Option, Some, None, Result, Ok, Err, IfOk, inl, inr, refl, sym, ◌∙◌, ap, subst, append_assoc, append-nil}
+use Rattle.std.proofs.Common.{◌≡◌, ℕ, ◌++◌, List, [], ◌∷◌, Option, Some, None, Result, Ok, Err, IfOk, inl, inr, refl, sym, ◌∙◌, ap, subst, append_assoc}
 use Rattle.rws_board.specs.declared.event.Event.{Event}
 use Rattle.rws_board.specs.declared.event.Event.TheVariants.{Begin, ClientBytes, ClientGone, LinkBytes, LinkGone, End}
-use Rattle.rws_trace.specs.Lines.{lines_of, Begins, IsFeedless, IsWhole}
+use Rattle.rws_trace.specs.Lines.{lines_of, Begins, IsFeedless}
 use Rattle.rws_trace.specs.Lines.Begins.{fed, last}
 use Rattle.rws_trace.specs.Reader.{Ahead, IsFound, IsNext, IsNextIf, Reads, ReadsOut, ReadsPart, Tells, TellsIf, script_at}
 use Rattle.rws_trace.specs.Reader.Reads.{whole, all}
-use Rattle.rws_trace.specs.Script.{Script, told_before, all_before, ended}
+use Rattle.rws_trace.specs.Script.{Script, all_before, ended}
 use Rattle.rws_trace.specs.declared.found.Found.{Found}
 use Rattle.rws_trace.specs.declared.found.Found.TheVariants.{Line}
 use Rattle.rws_trace.specs.declared.place.Place.{Place}

@@ -1,7 +1,7 @@
 -- What a board over a trace did, and then did more.
-use Rattle.std.specs.Prelude.{◌≡◌, ℕ, ◌+◌, List, [], ◌∷◌, ◌++◌, length, Option, Some, None, Result, Ok, Err, MatchResult, refl}
+use Rattle.std.specs.Prelude.{◌≡◌, ℕ, List, [], ◌∷◌, ◌++◌, length, Option, Some, None, Result, Ok, Err, MatchResult}
 use Rattle.std.specs.Io.KnownBytes.{Appends}
-use Rattle.std.proofs.Common.{sym, ◌∙◌, ap, subst, arith, append_assoc, append-nil, length-append}
+use Rattle.std.proofs.Common.{sym, ◌∙◌, ap, subst, arith, append-nil, length-append}
 use Rattle.std.proofs.KnownBytes.{Appends-trans}
 use Rattle.rws_board.specs.Boards.{Standing, events_given, actions_taken, given, standing_after}
 use Rattle.rws_board.specs.Boards.Standing.{Going, Ended, NextFailed, ActFailed}
@@ -13,13 +13,11 @@ use Rattle.rws_board.specs.declared.board_fault.BoardFault.TheVariants as faults
 use Rattle.rws_board.specs.declared.event.Event.{Event}
 use Rattle.rws_board.specs.declared.interaction.Interaction.{Interaction}
 use Rattle.rws_board.specs.declared.interaction.Interaction.TheVariants.{Took}
-use Rattle.rws_trace.specs.Lines.{lines_of}
-use Rattle.rws_trace.specs.Printing.{action_text, text_of}
-use Rattle.rws_trace.specs.Reader.{Ahead, ReaderState, Reads, ReadsPart, ReadsOut, script_at}
-use Rattle.rws_trace.specs.Script.{Script, all_before, ended}
+use Rattle.rws_trace.specs.Printing.{text_of}
+use Rattle.rws_trace.specs.Reader.{Ahead, Reads, ReadsPart, ReadsOut}
+use Rattle.rws_trace.specs.Script.{all_before}
 use Rattle.rws_trace.specs.ScriptBoards.{ScriptBoardState, AheadOf, FirstEvents, Counts, Goes, Ends, InputFails, IsCutShort, ScriptDid, StandsSo}
 use Rattle.rws_trace.specs.ScriptState.{Did}
-use Rattle.rws_trace.specs.declared.place.Place.{Place}
 use Rattle.rws_trace.specs.declared.script_board.ScriptBoard.{ScriptBoard}
 use Rattle.rws_trace.specs.declared.side.Side.{Side}
 use Rattle.rws_trace.specs.declared.script_board.ScriptBoard.{ScriptBoard}
@@ -119,6 +117,7 @@ module _ {I O : Type 0} (left : I → Option (List ℕ)) (input_faults : I → �
   did_more : (before more : List Interaction) (standing : Standing) → Did left input_faults taken output_faults start old before Going → Did left input_faults taken output_faults old new more standing
       → Did left input_faults taken output_faults start new (before ++ more) standing
   did_more before more standing first next = record {
+    reader = next.reader ∙ first.reader;
     input = next.input ∙ first.input;
     out = next.out ∙ first.out;
     did = script_did_more _ _ _ before more standing first.did next.did;

@@ -1,5 +1,5 @@
 -- A board over a trace, as contracts see it.
-use Rattle.std.specs.Prelude.{◌≡◌, ℕ, List, [], ◌++◌, Option, Some, None, refl}
+use Rattle.std.specs.Prelude.{◌≡◌, ℕ, List, [], Option, Some, None, refl}
 use Rattle.std.proofs.Common.{inl, arith}
 use Rattle.std.proofs.KnownBytes.{Appends-nil}
 use Rattle.rws_board.specs.Boards.{Standing}
@@ -14,7 +14,7 @@ use Rattle.rws_trace.specs.declared.script_board.ScriptBoard.{ScriptBoard}
 module _ {I O : Type 0} (left : I → Option (List ℕ)) (input_faults : I → ℕ) (taken : O → Option (List ℕ)) (output_faults : O → ℕ) where
   abbrev pub state_of : ScriptBoard I O → ScriptBoardState
   state_of board = record {
-    reader = board.reader;
+    reader = board.reader.now;
     left = left board.input.now;
     taken = taken board.out.now;
     input_faults = input_faults board.input.now;
@@ -22,8 +22,9 @@ module _ {I O : Type 0} (left : I → Option (List ℕ)) (input_faults : I → �
     failed = board.failed;
   }
 
-  -- the board did this and stands so, over the same input and the same output
+  -- the board did this and stands so, with the same reader, input and output
   pub record Did (old new : ScriptBoard I O) (interactions : List Interaction) (standing : Standing) : Type 0 where
+    pub reader : new.reader.ghost_name ≡ old.reader.ghost_name
     pub input : new.input.ghost_name ≡ old.input.ghost_name
     pub out : new.out.ghost_name ≡ old.out.ghost_name
     pub did : ScriptDid (state_of old) (state_of new) interactions standing

@@ -1,17 +1,16 @@
-//! A board over a trace. It holds its reader, its input and its output, and nothing of what it did: contracts relate
-//! what is left of the input and what the output has taken.
-ghost use Rattle.std.specs.Prelude.{◌≡◌, ◌≤◌, ◌∷◌, [], None, IfOk, IsErrOf, MatchResult};
+//! A board over a trace. It is lent its reader, its input and its output, and holds nothing of what it did: contracts
+//! relate what is left of the input and what the output has taken. It owns no memory, so that a caller knows all three
+//! when the board is dropped.
+ghost use Rattle.std.specs.Prelude.{◌≡◌, ◌∷◌, [], None, IsErrOf, MatchResult};
 ghost use Rattle.rws_board.specs.Boards.{given, standing_after};
 ghost use Rattle.rws_board.specs.Boards.Standing.{Going, NextFailed, ActFailed};
 ghost use Rattle.rws_board.specs.Faults.{Rises};
 ghost use Rattle.rws_board.specs.declared.interaction.Interaction.TheVariants.{Took};
-ghost use Rattle.rws_trace.specs.Reader.{fresh};
 ghost use Rattle.rws_trace.specs.ScriptState.{Did};
 
 use crate::event_reader::EventReader;
 use crate::print::action_line;
 use crate::read_error::ReadError;
-use crate::settings::TraceSettings;
 use crate::side::Side;
 use rws_board::{Action, Board, BoardFault, Event, Failed, Sink, Source};
 use std::alloc::{AllocError, Global};
@@ -20,35 +19,32 @@ use std::alloc::{AllocError, Global};
 #[derive(Drop)]
 pub struct ScriptBoard<'a, I: Source, O: Sink> {
     alloc: Global,
-    reader: EventReader,
+    reader: &'a mut EventReader,
     input: &'a mut I,
     out: &'a mut O,
     failed: Option<Side>,
 }
 
 impl<'a, I: Source, O: Sink> ScriptBoard<'a, I, O> {
-    /// A board at the start of its trace. `servers` is the number of the settings' servers, and `plain` says that their
-    /// first account has an empty password; without that no session may begin.
+    /// A board that reads on with this reader, and takes no memory.
     pub fn new(
         alloc: Global,
+        reader: &'a mut EventReader,
         input: &'a mut I,
         out: &'a mut O,
-        servers: u8,
-        plain: bool,
-    ) -> Result<ScriptBoard<'a, I, O>, AllocError>
-        requires { (1 ≤ servers) × (servers ≤ 7) }
-        ensures input_lent { IfOk result (λ board. (board.input.ghost_name ≡ input.entry.ghost_name) × (board.input.now ≡ input.old)) }
-        ensures out_lent { IfOk result (λ board. (board.out.ghost_name ≡ out.entry.ghost_name) × (board.out.now ≡ out.old)) }
-        ensures starts { IfOk result (λ board. (board.reader ≡ fresh (record { servers = servers; plain = plain })) × (board.failed ≡ None)) }
+    ) -> ScriptBoard<'a, I, O>
+        ensures reader_lent { (result.reader.ghost_name ≡ reader.entry.ghost_name) × (result.reader.now ≡ reader.old) }
+        ensures input_lent { (result.input.ghost_name ≡ input.entry.ghost_name) × (result.input.now ≡ input.old) }
+        ensures out_lent { (result.out.ghost_name ≡ out.entry.ghost_name) × (result.out.now ≡ out.old) }
+        ensures starts { result.failed ≡ None }
     {
-        let reader = EventReader::new(alloc, TraceSettings { servers, plain })?;
-        Ok(ScriptBoard {
+        ScriptBoard {
             alloc,
             reader,
             input,
             out,
             failed: None,
-        })
+        }
     }
 
     /// The side that failed, after a failed call.
@@ -60,14 +56,14 @@ impl<'a, I: Source, O: Sink> ScriptBoard<'a, I, O> {
 
     /// The number, from 1, of the bad line at which the trace stopped.
     pub fn bad_line(&self) -> Option<u64>
-        ensures { result ≡ self.now.reader.place.bad_line }
+        ensures { result ≡ self.now.reader.now.place.bad_line }
     {
         self.reader.bad_line()
     }
 
     /// How many events were given, the end left out.
     pub fn events(&self) -> u64
-        ensures { result ≡ self.now.reader.place.events }
+        ensures { result ≡ self.now.reader.now.place.events }
     {
         self.reader.events()
     }
@@ -131,5 +127,5 @@ impl<'a, I: Source, O: Sink> Board for ScriptBoard<'a, I, O> {
     ghost use Rattle.std.specs.Prelude.{refl};
     ghost use Rattle.rws_trace.specs.ScriptState.{did_nothing};
 
-    ghost did_nothing = { λ board. record { input = refl; out = refl; did = did_nothing _ } };
+    ghost did_nothing = { λ board. record { reader = refl; input = refl; out = refl; did = did_nothing _ } };
 }

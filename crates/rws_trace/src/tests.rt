@@ -1,6 +1,6 @@
 //! What no contract says: that calls succeed with ample memory, and lines from outside.
 use super::*;
-use rws_board::{Action, CallList, Event, MemSource, ReadSource};
+use rws_board::{Action, Board, BoardFault, CallList, Event, MemSink, MemSource, ReadSource};
 use rws_wire::{CloseReason, Text};
 use std::alloc::Global;
 use std::io::{self, Read};
@@ -124,4 +124,27 @@ fn last_lines_are_printed(rt: HostRuntime) -> Result<(), Fail> {
     assert_eq!(rt; bad_line(alloc, 2)?.as_slice(), b"bad line 2\n".as_slice());
     assert!(rt; usage_line().starts_with(b"usage: rwsplit trace SETTINGS | "));
     Ok(())
+}
+
+#[test]
+fn a_board_reads_lines_and_prints_lines(rt: HostRuntime) -> Result<(), Fail> {
+    let alloc = rt.alloc();
+    let mut input = source(alloc, b"gone 1\nbegin 1 3\n", &[])?;
+    let mut out = MemSink::new(alloc, 64, CallList::from_slice(alloc, &[1])?)?;
+    let mut reader = EventReader::new(alloc, THREE)?;
+    let mut board = ScriptBoard::new(alloc, &mut reader, &mut input, &mut out);
+    assert_eq!(rt; board.next(0), Ok(Event::ClientGone { session: 1 }));
+    assert_eq!(rt; board.act(quits()), Ok(()));
+    assert_eq!(rt; board.next(0), Ok(Event::End));
+    assert_eq!(rt; board.bad_line(), Some(2));
+    assert_eq!(rt; board.act(quits()), Err(BoardFault::Failed));
+    assert_eq!(rt; board.failed(), Some(Side::Output));
+    drop(board);
+    assert_eq!(rt; out.as_slice(), b"close 1 quit\n".as_slice());
+    Ok(())
+}
+
+fn quits() -> Action {
+    let reason = CloseReason::Quit;
+    Action::Close { session: 1, reason }
 }

@@ -61,6 +61,7 @@ passes config old new run event w told_none fetched sessions owners links_ begun
     links = links_ ∙ w.links;
     begun = begun ∙ ap (max (begun_by event)) w.begun;
   };
+  heard = refl;
   did = ap (λ (xs : List Interaction). interactions_of run ++ xs)
       (sym (append-nil (given event)) ∙ ap (λ (xs : List Action). given event ++ map Took xs) (sym (ap (λ outs. outs.items) outs ∙ fetched)));
 }
@@ -107,6 +108,7 @@ module _ (config : Config) (old new : Worker) (run : List Entry) (event : Event)
       links = links_ ∙ w.links ∙ sym t.links;
       begun = begun ∙ w.begun ∙ sym t.begun;
     };
+    heard = t.heard_one;
     did = t.did;
   }
 
@@ -139,7 +141,8 @@ module _ (config : Config) (old new : Worker) (run : List Entry) (event : Event)
           links = links_ ∙ w.links ∙ sym t.links;
           begun = begun ∙ w.begun ∙ sym t.begun;
         };
-        did = t.did;
+        heard = t.heard_one;
+    did = t.did;
       }
 
 -- A session begins
@@ -224,6 +227,7 @@ begins config old new run session server kept w fetched above served numbered st
         links = links_ ∙ ap (λ (l : ℕ). l + 1) w.links;
         begun = begun ∙ (omega arith);
       };
+      heard = refl;
       did = ap (λ (xs : List Interaction). interactions_of run ++ xs)
           (sym (append-nil (given event)) ∙ ap (λ (xs : List Action). given event ++ map Took xs) (sym (ap (λ outs. outs.items) outs ∙ fetched)));
     }

@@ -11,7 +11,7 @@ use Rattle.rws_record.specs.Rules.{next, ◌or◌}
 use Rattle.rws_record.specs.Outputs.{outs_of, actions_of}
 use Rattle.rws_record.specs.Record.{GoesOn}
 use Rattle.rws_record.specs.Record.GoesOn.{stays, then as goes}
-use Rattle.rws_record.specs.Run.{Entry, IsRun, next_entry, record_of, greatest, last_link, owner, hearer, untold, step_of, hearing}
+use Rattle.rws_record.specs.Run.{Entry, IsRun, next_entry, record_of, greatest, last_link, owner, hearer, untold, step_of, hearing, events_of}
 use Rattle.rws_record.specs.Run.Entry.{Did}
 use Rattle.rws_record.specs.Run.IsRun.{goes_on}
 use Rattle.rws_record.proofs.StepLemmas.{of_next, step_opens_none}
@@ -30,6 +30,7 @@ pub record Lifted (config : Config) (session : ℕ) (start : List Entry) (now : 
   pub links : last_link run ≡ last_link start
   pub begun : greatest run ≡ greatest start
   pub told : untold config run ≡ untold config start
+  pub heard : events_of run ≡ events_of start
   pub actions : List Action
   pub did : interactions_of run ≡ interactions_of start ++ map Took actions
   pub given : actions_of session now ≡ actions_of session (record_of session start) ++ actions
@@ -63,6 +64,7 @@ lift config session start legal hears here stays = record {
   links = refl;
   begun = refl;
   told = refl;
+  heard = refl;
   held = λ link has. subst (λ (past : List Item). contains link (links past) ≡ true) (sym here) has;
   actions = [];
   did = sym (append-nil (interactions_of start));
@@ -81,6 +83,7 @@ lift config session start legal hears here (goes {now} {item} before step) =
       links = did_last session item l.run none ∙ l.links;
       begun = l.begun;
       told = l.told;
+      heard = l.heard;
       held = λ link has. l.held link (still_has item now link none has);
       actions = l.actions ++ outs_of session item now;
       did = ap (λ (past : List Item). interactions_of l.run ++ map Took (outs_of session item past)) l.here

@@ -14,7 +14,7 @@ use Rattle.rws_record.specs.Rules.{next, ◌or◌}
 use Rattle.rws_record.specs.Outputs.{actions_of}
 use Rattle.rws_record.specs.Record.{GoesOn}
 use Rattle.rws_record.specs.Record.GoesOn.{stays, then as goes}
-use Rattle.rws_record.specs.Run.{Entry, IsRun, next_entry, record_of, is_live, begun_by, greatest, last_link, owner, told_by, untold, hearer, step_of, hearing}
+use Rattle.rws_record.specs.Run.{Entry, IsRun, next_entry, record_of, is_live, begun_by, greatest, last_link, owner, told_by, untold, hearer, step_of, hearing, events_of}
 use Rattle.rws_record.specs.Run.Entry.{Came, Heard, Did}
 use Rattle.rws_record.specs.Run.IsRun.{came, goes_on}
 use Rattle.rws_session.specs.Kept.{Kept, Stands}
@@ -40,6 +40,7 @@ pub record Turned (config : Config) (run : List Entry) (event : Event) (session 
   pub owners : (link : ℕ) → owner link now ≡ owner link run
   pub links : last_link now ≡ last_link run
   pub begun : greatest now ≡ greatest run
+  pub heard_one : events_of now ≡ events_of run ++ event ∷ []
   pub did : interactions_of now ≡ interactions_of run ++ (given event ++ map Took actions)
 
 live_flag : (past : List Item) → is_live past ≡ true → is_live past ≡ not (is_over past)
@@ -124,6 +125,7 @@ module _ (config : Config) (event : Event) (session : ℕ) (kept kept' : Kept) (
         owners = λ link. l.owners link ∙ heard_owners session item (Came event ∷ run) link none;
         links = l.links ∙ heard_last session item (Came event ∷ run) none;
         begun = l.begun ∙ (let zero = none_begun in omega arith);
+        heard_one = l.heard;
         held = λ link has. still_has item past link none
             (subst (λ (p : List Item). contains link (links p) ≡ true) here
             (l.held link (subst (λ (p : List Item). contains link (links p) ≡ true) l.here has)));
@@ -146,6 +148,7 @@ module _ (config : Config) (event : Event) (session : ℕ) (kept kept' : Kept) (
         owners = λ _. refl;
         links = refl;
         begun = (let zero = none_begun in omega arith);
+        heard_one = refl;
         held = λ link has. has;
         did = ap (λ (xs : List Interaction). interactions_of run ++ xs)
             (sym (append-nil (given event)) ∙ ap (λ (xs : List Action). given event ++ map Took xs) (sym no_actions));

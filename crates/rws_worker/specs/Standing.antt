@@ -10,7 +10,7 @@ use Rattle.rws_board.specs.Boards.{given}
 use Rattle.rws_config.specs.declared.config.Config.{Config}
 use Rattle.rws_record.specs.Item.{Item}
 use Rattle.rws_record.specs.Outputs.{outs_of}
-use Rattle.rws_record.specs.Run.{Entry, IsRun, next_entry, record_of, is_live, owner, last_link, greatest}
+use Rattle.rws_record.specs.Run.{Entry, IsRun, next_entry, record_of, is_live, owner, last_link, greatest, events_of}
 use Rattle.rws_record.specs.Run.Entry.{Came, Heard, Did}
 use Rattle.rws_record.specs.Values.{links, contains}
 use Rattle.rws_session.specs.Kept.{Kept, Stands}
@@ -57,6 +57,7 @@ HasRun config worker = (run : List Entry) × WorkerStands config worker run
 pub record Advances (config : Config) (run : List Entry) (event : Event) (worker : Worker) : Type 0 where
   pub now : List Entry
   pub stands : WorkerStands config worker now
+  pub heard : events_of now ≡ events_of run ++ event ∷ []
   pub did : interactions_of now ≡ interactions_of run ++ (given event ++ map Took worker.outs.items)
 
 -- what an input tells a session that goes on

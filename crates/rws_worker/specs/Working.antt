@@ -1,10 +1,11 @@
 -- What a worker over a board answers, and what the board did by then.
-use Rattle.std.specs.Prelude.{◌≡◌, ℕ, ◌+◌, ◌^◌, ◌<◌, List, [], ◌∷◌, ◌++◌, length, map, None}
-use Rattle.rws_board.specs.Boards.{Standing}
+use Rattle.std.specs.Prelude.{◌≡◌, ℕ, Bool, true, false, ◌+◌, ◌^◌, ◌<◌, List, [], ◌∷◌, ◌++◌, length, map, None}
+use Rattle.rws_board.specs.Boards.{Standing, events_given}
 use Rattle.rws_board.specs.Boards.Standing.{Going, Ended as AtEnd, NextFailed, ActFailed}
 use Rattle.rws_board.specs.declared.board_fault.BoardFault.{BoardFault}
 use Rattle.rws_board.specs.declared.board_fault.BoardFault.TheVariants as faults
 use Rattle.rws_board.specs.declared.event.Event.{Event}
+use Rattle.rws_board.specs.declared.event.Event.TheVariants.{End}
 use Rattle.rws_board.specs.declared.interaction.Interaction.{Interaction}
 use Rattle.rws_board.specs.declared.interaction.Interaction.TheVariants.{Gave, Took}
 use Rattle.rws_config.specs.declared.config.Config.{Config}
@@ -19,6 +20,8 @@ pub record IsResting (config : Config) (run : List Entry) : Type 0 where
   pub legal : IsRun config run
   pub rests : next_entry config run ≡ None
   pub few : length (events_of run) < 2 ^ 32
+  -- the end isn't among the events
+  pub told : events_given (interactions_of run) ≡ events_of run
 
 -- what was done is a front of what passes in a run that rests
 pub record IsFront (config : Config) (done : List Interaction) : Type 0 where
@@ -56,16 +59,22 @@ pub record IsUnderway (config : Config) (did : List Interaction → Standing →
   pub fetched : worker.outs.items ≡ []
   pub counted : events ≡ length (events_of run)
   pub few : events < 2 ^ 32
+  pub told : events_given (interactions_of run) ≡ events_of run
   pub done_so_far : did (interactions_of run) Going
 
--- all that was to be fetched of a worker was done
-pub record TakesAll (did : List Interaction → Standing → Type 0) (old new : Worker) : Type 0 where
-  pub all_done : did (map Took old.outs.items) Going
+-- all that was to be fetched of a worker was done behind what was done before
+pub record TakesAll (did : List Interaction → Standing → Type 0) (before : List Interaction) (old new : Worker) : Type 0 where
+  pub all_done : did (before ++ map Took old.outs.items) Going
   pub fetched : new.outs.items ≡ []
 
--- a front of what was to be fetched was done, or tried
-pub record TakesSome (did : List Interaction → Standing → Type 0) (old : Worker) (fault : BoardFault) : Type 0 where
+-- a front of it was done, or tried
+pub record TakesSome (did : List Interaction → Standing → Type 0) (before : List Interaction) (old : Worker) (fault : BoardFault) : Type 0 where
   pub done : List Interaction
   pub rest : List Interaction
   pub parted : map Took old.outs.items ≡ done ++ rest
-  pub some_done : did done (ActFailed fault)
+  pub some_done : did (before ++ done) (ActFailed fault)
+
+-- it is the end
+abbrev pub is_end : Event → Bool
+is_end End = true
+is_end event = false

@@ -1,18 +1,18 @@
 //! A worker over a board.
-ghost use Rattle.std.specs.Prelude.{◌≡◌, ◌≤◌, ◌+◌, [], List, Some, IfOk, IfSome, IsErrOf, MatchOption, MatchResult, map};
-ghost use Rattle.rws_board.specs.Boards.{Standing};
+ghost use Rattle.std.specs.Prelude.{◌≡◌, ◌≤◌, ◌+◌, List, Some, IsErrOf, MatchOption, MatchResult};
+ghost use Rattle.rws_board.specs.Boards.Standing.{Going};
 ghost use Rattle.rws_board.specs.Faults.{Rises};
 ghost use Rattle.rws_board.specs.declared.interaction.Interaction.{Interaction};
 ghost use Rattle.rws_config.specs.declared.config.Config.{Config};
 ghost use Rattle.rws_record.specs.Run.{Entry};
 ghost use Rattle.rws_worker.specs.Standing.{WorkerStands};
-ghost use Rattle.rws_worker.specs.Working.{IsUnderway, TakesAll, TakesSome, Works};
+ghost use Rattle.rws_worker.specs.Working.{IsUnderway, TakesAll, TakesSome, Works, is_end};
 ghost use Rattle.rws_worker.specs.declared.work.WorkEnd.TheVariants.{BoardFailed};
 
 use crate::{Step, Worker};
 use rws_board::{Board, BoardFault, Event};
 use rws_config::Config;
-use std::alloc::Global;
+use std::alloc::{AllocError, Global};
 
 /// How a worker's work ended.
 #[derive(Clone, Copy, Debug, PartialEq, Eq)]
@@ -59,17 +59,20 @@ fn handle_next<B: Board>(
     ensures failed { result ≡ Some BoardFailed → Rises (B.faults board.old) (B.faults board.new) }
 {
     let event = match board.next(0) {
-        Ok(Event::End) => return Some(WorkEnd::Ended),
         Ok(event) => event,
         Err(BoardFault::Failed) => return Some(WorkEnd::BoardFailed),
         Err(BoardFault::OutOfMemory) => return Some(WorkEnd::OutOfMemory),
     };
+    if is_end(&event) {
+        return Some(WorkEnd::Ended);
+    }
     if *events == u32::MAX {
         return Some(WorkEnd::TooMany);
     }
     *events += 1;
-    if worker.give(event, config).is_err() {
-        return Some(WorkEnd::OutOfMemory);
+    match worker.give(event, config) {
+        Ok(()) => {}
+        Err(AllocError) => return Some(WorkEnd::OutOfMemory),
     }
     match act_all(worker, board) {
         Ok(()) => None,
@@ -78,11 +81,25 @@ fn handle_next<B: Board>(
     }
 }
 
+/// The event is the end.
+fn is_end(event: &Event) -> bool
+    ensures { result ≡ is_end event.now }
+{
+    match event {
+        Event::End => true,
+        Event::Begin { .. } => false,
+        Event::ClientBytes { .. } => false,
+        Event::ClientGone { .. } => false,
+        Event::LinkBytes { .. } => false,
+        Event::LinkGone { .. } => false,
+    }
+}
+
 /// Does all that came of the last event, in order.
 fn act_all<B: Board>(worker: &mut Worker, board: &mut B) -> Result<(), BoardFault>
-    ensures acts { MatchResult result
-        (λ _. TakesAll (B.did board.old board.new) worker.old worker.new)
-        (λ fault. TakesSome (B.did board.old board.new) worker.old fault) }
+    ensures acts { (start : B) (before : List Interaction) → B.did start board.old before Going → MatchResult result
+        (λ _. TakesAll (B.did start board.new) before worker.old worker.new)
+        (λ fault. TakesSome (B.did start board.new) before worker.old fault) }
     ensures stands { (config : Config) (run : List Entry) → WorkerStands config worker.old run
         → WorkerStands config worker.new run }
     ensures counts { B.faults board.old ≤ B.faults board.new }

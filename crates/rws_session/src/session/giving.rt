@@ -25,7 +25,12 @@ impl Session {
         ensures { OnOk result (self.new ≡ gives out self.old) }
     {
         match out {
-            Out::Pass { number, link, payload, outcome } => self.pass(number, link, payload.as_slice(), outcome),
+            Out::Pass {
+                number,
+                link,
+                payload,
+                outcome,
+            } => self.pass(number, link, payload.as_slice(), outcome),
             Out::Own { number, status } => self.answer(number, &own_ok(status)),
             Out::Refuse { number, error } => self.answer(number, error.payload()),
             Out::Drop { link, cause } => self.drop_link(link, cause),
@@ -56,7 +61,13 @@ impl Session {
     }
 
     /// Passes a payload of the reply to the pending command on; the last one comes with an outcome.
-    fn pass(&mut self, number: u8, link: u64, payload: &[u8], outcome: Option<Outcome>) -> Result<(), AllocError>
+    fn pass(
+        &mut self,
+        number: u8,
+        link: u64,
+        payload: &[u8],
+        outcome: Option<Outcome>,
+    ) -> Result<(), AllocError>
         ensures { OnOk result (self.new ≡ gives (outs.Pass number link payload.now outcome) self.old) }
     {
         let next = self.tell(number, payload)?;
@@ -94,11 +105,17 @@ impl Session {
 
     /// A link is lost: what this means for the session is owed.
     pub(super) fn owe_loss(&mut self, link: u64) -> Result<(), AllocError>
-        ensures { OnOk result (self.new ≡ record self.old { state = record self.old.state {
-          owed = map erased (after_loss_by (loss_in link self.old.state)) ++ self.old.state.owed;
-        } }) }
+        ensures { OnOk result (self.new ≡ record self.old {
+          state = record self.old.state {
+            owed = map erased (after_loss_by (loss_in link self.old.state)) ++ self.old.state.owed;
+          };
+        }) }
     {
-        match closing(self.told_from == Some(link), self.sent_on == Some(link), self.kept_on == Some(link)) {
+        match closing(
+            self.told_from == Some(link),
+            self.sent_on == Some(link),
+            self.kept_on == Some(link),
+        ) {
             Some(reason) => self.owe(Out::Close { reason }),
             None => Ok(()),
         }
@@ -127,9 +144,11 @@ impl Session {
 
     /// What is owed is that the links are given up, and nothing else.
     pub(super) fn owe_farewells(&mut self) -> Result<(), AllocError>
-        ensures { OnOk result (self.new ≡ record self.old { state = record self.old.state {
-          owed = map (λ link. Some (outs.Drop link.number causes.End)) self.old.state.links;
-        } }) }
+        ensures { OnOk result (self.new ≡ record self.old {
+          state = record self.old.state {
+            owed = map (λ link. Some (outs.Drop link.number causes.End)) self.old.state.links;
+          };
+        }) }
     {
         farewells(self.links.as_slice(), &mut self.owed)
     }

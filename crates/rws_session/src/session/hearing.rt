@@ -49,9 +49,11 @@ impl Session {
 
     /// Puts bytes behind those that the client's stream holds.
     fn feed_client(&mut self, bytes: &[u8]) -> Result<(), AllocError>
-        ensures { OnOk result (self.new ≡ record self.old { state = record self.old.state {
-          client = record self.old.state.client { held = self.old.state.client.held ++ bytes.now };
-        } }) }
+        ensures { OnOk result (self.new ≡ record self.old {
+          state = record self.old.state {
+            client = record self.old.state.client { held = self.old.state.client.held ++ bytes.now };
+          };
+        }) }
     {
         self.client.feed(bytes)
     }

@@ -152,9 +152,11 @@ impl Session {
 
     /// Decides what follows on what a link's bytes completed.
     fn take_arrival(&mut self, link: u64, arrival: Arrival) -> Result<(), AllocError>
-        ensures { OnOk result (self.new ≡ record self.old { state = record self.old.state {
-          owed = owes_for link arrival self.old.state.reply_number ++ self.old.state.owed;
-        } }) }
+        ensures { OnOk result (self.new ≡ record self.old {
+          state = record self.old.state {
+            owed = owes_for link arrival self.old.state.reply_number ++ self.old.state.owed;
+          };
+        }) }
     {
         match arrival {
             Arrival::Stray => self.owe(Out::Drop {
@@ -175,10 +177,18 @@ impl Session {
     }
 
     /// Decides what follows on a payload of the pending command's reply.
-    fn take_reply(&mut self, link: u64, payload: Text, progress: Option<Progress>, behind: bool) -> Result<(), AllocError>
-        ensures { OnOk result (self.new ≡ record self.old { state = record self.old.state {
-          owed = owes_reply link payload progress behind self.old.state.reply_number ++ self.old.state.owed;
-        } }) }
+    fn take_reply(
+        &mut self,
+        link: u64,
+        payload: Text,
+        progress: Option<Progress>,
+        behind: bool,
+    ) -> Result<(), AllocError>
+        ensures { OnOk result (self.new ≡ record self.old {
+          state = record self.old.state {
+            owed = owes_reply link payload progress behind self.old.state.reply_number ++ self.old.state.owed;
+          };
+        }) }
     {
         let number = self.reply_number;
         match progress {
@@ -297,9 +307,11 @@ impl Session {
 
     /// A command is one that a server is to answer.
     fn serve(&mut self, kind: Kind, payload: Text, number: u8)
-        ensures { self.new ≡ record self.old { state = record self.old.state {
-          pending = Some (record { payload = payload; kind = kind; number = number });
-        } } }
+        ensures { self.new ≡ record self.old {
+          state = record self.old.state {
+            pending = Some (record { payload = payload; kind = kind; number = number });
+          };
+        } }
     {
         self.pending = Some(Command {
             payload,
@@ -318,7 +330,10 @@ impl Session {
                 CloseReason::OutOfOrder { want, got },
             ),
             WireFault::TooLarge { length } => {
-                self.break_off(ProxyError::CommandTooLarge, CloseReason::TooLarge { length })
+                self.break_off(
+                    ProxyError::CommandTooLarge,
+                    CloseReason::TooLarge { length },
+                )
             }
         }
     }

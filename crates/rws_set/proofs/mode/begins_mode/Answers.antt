@@ -1,4 +1,4 @@
-use Rattle.rws_set.specs.Words.{mode_words}
+use Rattle.rws_set.specs.Modes.{mode_words}
 use Rattle.rws_set.proofs.mode.begins_mode.Goals as goal
 
 -- the program's list is the list of words

@@ -1,6 +1,6 @@
 use Rattle.std.proofs.Common.{◌≡◌, true, sym, ◌∙◌}
-use Rattle.rws_set.specs.Words.{mode_words}
-use Rattle.rws_set.specs.Settings.{begins_mode}
+use Rattle.rws_set.specs.Modes.{mode_words}
+use Rattle.rws_set.specs.Modes.{begins_mode}
 use Rattle.rws_set.proofs.ModeLemmas.{holds_mode-here}
 use Rattle.rws_set.proofs.mode.holds_mode.Goals as goal
 

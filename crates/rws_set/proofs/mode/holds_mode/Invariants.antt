@@ -1,6 +1,6 @@
 use Rattle.std.proofs.Common.{◌≡◌, length}
-use Rattle.rws_set.specs.Words.{mode_words}
-use Rattle.rws_set.specs.Settings.{holds_mode}
+use Rattle.rws_set.specs.Modes.{mode_words}
+use Rattle.rws_set.specs.Modes.{holds_mode}
 use Rattle.rws_set.proofs.mode.holds_mode.Given as goal
 
 abbrev pub invariant-loop-rest : goal.invariant-loop-rest

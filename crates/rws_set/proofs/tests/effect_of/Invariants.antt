@@ -1,12 +1,12 @@
 use Rattle.std.proofs.Common.{◌≡◌, ◌-◌, ◌≤◌, length}
 use Rattle.rws_set.proofs.tests.effect_of.Given as goal
 
-abbrev pub invariant-loop-token : goal.invariant-loop-token
-invariant-loop-token l = record {
-  same_text : l.tokens.text ≡ l.text;
-  depth : l.items.depth ≤ l.tokens.at;
-  within : l.tokens.at ≤ length l.text;
+abbrev pub invariant-loop-next : goal.invariant-loop-next
+invariant-loop-next l = record {
+  same_text : l.lexemes.text.now ≡ l.text;
+  depth : l.items.walk.depth ≤ l.lexemes.tokens.at;
+  within : l.lexemes.tokens.at ≤ length l.text;
 }
 
-abbrev pub decreases-loop-token : goal.decreases-loop-token
-decreases-loop-token l = length l.text - l.tokens.at
+abbrev pub decreases-loop-next : goal.decreases-loop-next
+decreases-loop-next l = length l.text - l.lexemes.tokens.at

@@ -1,7 +1,7 @@
 use Rattle.std.proofs.Common.{◌≡◌, ◌≤◌, ◌+◌, ◌-◌, ℕ, drop, List, sym, ap, ◌∙◌, arith}
 use Rattle.std.proofs.lemmas.List.{drop-drop}
 use Rattle.rws_token.specs.Lexed.{lexed_from, follow}
-use Rattle.rws_token.specs.declared.piece.Piece.TheVariants.{Lexeme}
+use Rattle.rws_token.specs.declared.piece.Piece.TheVariants.{Whole}
 use Rattle.rws_token.proofs.LexedLemmas.{lexed_from-gap_at, lexed_from-lexeme_at}
 use Rattle.rws_token.proofs.tokens.next_token.Goals as goal
 
@@ -24,9 +24,9 @@ loop-rest-preserved c =
       all_bytes = omega (arith, inv.all_bytes, c.split_at.ensures.back_len);
     }
 
-pub returns-in-Lexeme-clause-tokens : goal.returns-in-Lexeme-clause-tokens
-returns-in-Lexeme-clause-tokens c =
+pub returns-in-Whole-clause-tokens : goal.returns-in-Whole-clause-tokens
+returns-in-Whole-clause-tokens c =
     let inv = c.loop-rest.invariant in
     let rest = c.loop-rest.rest.now in
-    let n = c.in-Lexeme.n in
-    sym inv.same_left ∙ lexed_from-lexeme_at c.loop-rest.start n rest c.in-Lexeme.kind c.in-len1-up.len_at_least c.in-Lexeme.ensures.piece c.in-Lexeme.ensures.within ∙ ap (λ left. follow c.loop-rest.start (Lexeme c.in-Lexeme.kind n) (λ _. lexed_from 0 (c.loop-rest.start + n) left)) (further _ rest c.loop-rest.start c.args.at n inv.behind inv.is_rest)
+    let n = c.in-Whole.n in
+    sym inv.same_left ∙ lexed_from-lexeme_at c.loop-rest.start n rest c.in-Whole.kind c.in-len1-up.len_at_least c.in-Whole.ensures.piece c.in-Whole.ensures.within ∙ ap (λ left. follow c.loop-rest.start (Whole c.in-Whole.kind n) (λ _. lexed_from 0 (c.loop-rest.start + n) left)) (further _ rest c.loop-rest.start c.args.at n inv.behind inv.is_rest)

@@ -5,12 +5,14 @@ use Rattle.rws_board.specs.declared.interaction.Interaction.TheVariants.{Took}
 use Rattle.rws_config.specs.declared.config.Config.{Config}
 use Rattle.rws_record.specs.Run.{Entry}
 use Rattle.rws_worker.specs.Standing.{WorkerStands}
+use Rattle.rws_worker.specs.contracts.work.act_all.{B-type}
 use Rattle.rws_worker.proofs.work.act_all.Given as goal
 
 abbrev pub invariant-loop-action : goal.invariant-loop-action
 invariant-loop-action g l =
     ((done : List Interaction) × (map Took l.initial.worker.outs.items ≡ done ++ map Took l.worker.outs.items)
-    × g.B.Board.did l.initial.board l.board done Going)
+    × ((start : B-type g.row.B) (before : List Interaction) → g.B.Board.did start l.initial.board before Going
+    → g.B.Board.did start l.board (before ++ done) Going))
     × (g.B.Board.faults l.initial.board ≤ g.B.Board.faults l.board)
     × ((config : Config) (run : List Entry) → WorkerStands config l.initial.worker run → WorkerStands config l.worker run)
 

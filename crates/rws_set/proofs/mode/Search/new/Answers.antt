@@ -1,6 +1,6 @@
 use Rattle.std.proofs.Common.{refl}
-use Rattle.rws_set.specs.Seen.{same_word}
-use Rattle.rws_set.specs.Words.{mode_words}
+use Rattle.rws_token.specs.Lexeme.{same_word}
+use Rattle.rws_set.specs.Modes.{mode_words}
 use Rattle.rws_set.proofs.mode.Search.new.Goals as goal
 
 -- no word begins with a zero byte

@@ -1,6 +1,6 @@
 use Rattle.std.proofs.Common.{◌≡◌, ℕ, Bool, ◌||◌, List, [], ◌∷◌, ◌++◌, drop, length, refl, ap, sym, ◌∙◌, arith}
-use Rattle.rws_set.specs.Words.{mode_words}
-use Rattle.rws_set.specs.Settings.{begins_mode, holds_mode}
+use Rattle.rws_set.specs.Modes.{mode_words}
+use Rattle.rws_set.specs.Modes.{begins_mode, holds_mode}
 use Rattle.rws_set.proofs.ModeLemmas.{AreShort, holds_mode-shift, or-assoc}
 use Rattle.rws_set.proofs.mode.Search.push.Goals as goal
 

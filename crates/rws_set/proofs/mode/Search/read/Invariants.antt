@@ -1,5 +1,5 @@
 use Rattle.std.proofs.Common.{◌≡◌, ℕ, List, ◌++◌, length}
-use Rattle.rws_set.specs.Mode.{found_in}
+use Rattle.rws_set.specs.Search.{found_in}
 use Rattle.rws_set.proofs.mode.Search.read.Given as goal
 
 abbrev pub invariant-loop-rest : goal.invariant-loop-rest

@@ -1,6 +1,4 @@
-use Rattle.std.proofs.Common.{rules, ◌≡◌, Option, Some, None, sym, subst}
-use Rattle.rws_board.specs.declared.event.Event.{Event}
-use Rattle.rws_trace.specs.Reader.{Ahead, TellsIf}
+use Rattle.std.proofs.Common.{rules, ◌≡◌, None}
 use Rattle.rws_trace.proofs.ReadsLemmas.{ahead-none, ahead-silent, ahead-tells, ahead-cut}
 use Rattle.rws_trace.proofs.event_reader.EventReader.next.Goals as goal
 

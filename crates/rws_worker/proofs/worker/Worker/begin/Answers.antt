@@ -34,9 +34,9 @@ returns c = λ run w.
     run c.args.session c.args.server c.in_ok-begun.begun w c.requires.fetched
     (let h = c.if-session-self.false in omega arith)
     (let h = c.if-from-len.false in let f = c.from.ensures in let l = c.len.ensures in omega arith)
-    c.in_ok-begun.ensures.number
-    (subst (λ (link : ℕ). Stands c.args.config.now c.in_ok-begun.begun (Began link c.args.server ∷ [])) link_is c.in_ok-begun.ensures.stands)
-    c.in_ok-begun.ensures.nothing
+    c.in_ok-begun.ensures.0
+    (subst (λ (link : ℕ). Stands c.args.config.now c.in_ok-begun.begun (Began link c.args.server ∷ [])) link_is c.in_ok-begun.ensures.2)
+    c.in_ok-begun.ensures.1
     (changes c.args.self.now.sessions c.insert.new.self _ _ c.in_ok-insert.ensures.updates)
     (subst (λ (link : ℕ). Changes c.args.self.now.owners c.insert-2.new.self link (Some c.args.session)) link_is
     (changes c.args.self.now.owners c.insert-2.new.self _ _ c.in_ok-insert-2.ensures.updates))

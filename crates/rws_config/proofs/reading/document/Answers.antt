@@ -1,0 +1,11 @@
+use Rattle.std.proofs.Common.{refl, sym, ◌∙◌, inr}
+use Rattle.std.proofs.lemmas.Bool.{false≢true}
+use Rattle.toml.specs.View.{table_view}
+use Rattle.rws_config.proofs.DocumentLemmas.{document_read, document_refused}
+use Rattle.rws_config.proofs.reading.document.Goals as goal
+
+pub returns-in-Ok : goal.returns-in-Ok
+returns-in-Ok c = document_read c.args.text.now (table_view c.in-Ok.table) c.in-Ok.ensures.ok.0 c.in-Ok.ensures.ok.1
+
+pub returns-in-Err-2 : goal.returns-in-Err-2
+returns-in-Err-2 c = inr (refl, document_refused c.args.text.now (c.in-Err.ensures.refused (λ e. false≢true (sym c.if-is_memory.false ∙ c.is_memory.ensures.1 e))))

@@ -1,0 +1,13 @@
+pub mod Fault
+pub mod Prepared
+pub mod PlainForm
+pub mod LinkIds
+pub mod LinkIdsView
+pub mod Slots
+pub mod StatementsView
+pub mod Links
+pub mod Table
+pub mod Answers
+pub mod StatementView
+pub mod StatementParts
+pub mod Laws

@@ -1,8 +1,0 @@
-use Rattle.std.proofs.lemmas.Bool.Decides.{same_from_decides}
-use Rattle.std.proofs.lemmas.Slice.Eq.{bytes_eq-Decides}
-use Rattle.rws_set.specs.Seen.{same_word}
-use Rattle.rws_set.proofs.lexeme.same_word.Goals as goal
-
-pub returns : goal.returns
-unfolding same_word
-returns c = same_from_decides _ _ c.eq_ignore_ascii_case.ensures.test (bytes_eq-Decides _ _)

@@ -1,7 +1,0 @@
-use Rattle.rws_set.specs.Words.{key_words}
-use Rattle.rws_set.proofs.table.is_key_word.Goals as goal
-
--- the program's list is the list of words
-pub returns : goal.returns
-unfolding key_words
-returns c = c.is_among.ensures

@@ -1,7 +1,0 @@
-use Rattle.rws_set.specs.Words.{primary_names}
-use Rattle.rws_set.proofs.table.is_primary.Goals as goal
-
--- the program's list is the list of words
-pub returns : goal.returns
-unfolding primary_names
-returns c = c.is_among.ensures

@@ -1,0 +1,5 @@
+pub mod Assignments
+pub mod Map
+pub mod Commands
+pub mod Reductions
+pub mod States

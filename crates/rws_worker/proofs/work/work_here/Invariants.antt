@@ -1,0 +1,11 @@
+use Rattle.std.proofs.Common.{◌≡◌, ◌≤◌, ◌-◌, ◌^◌}
+use Rattle.rws_worker.specs.Working.{IsUnderway}
+use Rattle.rws_worker.proofs.work.work_here.Given as goal
+
+abbrev pub invariant-events : goal.invariant-events
+invariant-events g l =
+    IsUnderway l.config (g.B.Board.did l.initial.board l.board) l.worker l.events
+    × (g.B.Board.faults l.initial.board ≤ g.B.Board.faults l.board) × (l.config ≡ l.initial.config)
+
+abbrev pub decreases-events : goal.decreases-events
+decreases-events g l = 2 ^ 32 - l.events
