@@ -1,5 +1,5 @@
 -- What a board does that reads a trace and prints actions.
-use Rattle.std.specs.Prelude.{◌≡◌, ℕ, ◌+◌, ◌-◌, ◌^◌, ◌≤◌, min, List, ◌++◌, length, Option, Some, None, ⊤}
+use Rattle.std.specs.Prelude.{◌≡◌, ℕ, ◌+◌, ◌-◌, ◌^◌, ◌≤◌, min, List, [], ◌++◌, length, Option, Some, None, ⊤}
 use Rattle.std.specs.Io.KnownBytes.{Appends, IsAtEnd}
 use Rattle.rws_board.specs.Boards.{Standing, events_given, actions_taken}
 use Rattle.rws_board.specs.Boards.Standing.{Going, Ended, NextFailed, ActFailed}
