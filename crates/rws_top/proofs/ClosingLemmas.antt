@@ -13,7 +13,7 @@ use Rattle.rws_top.specs.Tracing.PutsClosing.{put, unput, starved}
 
 module _ (config : Config) (before left taken taken' taken'' : Option (List ℕ)) (events : ℕ) (bad : Option ℕ)
     (input_failed put_failed output_failed : Type 0) (rose : put_failed → output_failed) (c : IsClosing config before left taken taken' events bad) where
-  text : List ℕ
+  abbrev text : List ℕ
   text = text_of (done_in c.run)
 
   whole : IsWhole config c.script (text ++ closing events bad)

@@ -17,7 +17,7 @@ use Rattle.rws_config.specs.declared.config.Config.{Config}
 use Rattle.rws_record.specs.Run.{Entry, IsRunOver, events_of, done_in}
 use Rattle.rws_record.specs.Run.IsRun.{starts}
 use Rattle.rws_trace.specs.Printing.{text_of}
-use Rattle.rws_trace.specs.Reader.{fresh}
+use Rattle.rws_trace.specs.Reader.{ReaderState, fresh}
 use Rattle.rws_trace.specs.ScriptBoards.{ScriptBoardState, ScriptDid, FirstEvents, Goes, Ends, InputFails, IsCutShort}
 use Rattle.rws_trace.specs.declared.side.Side.{Side}
 use Rattle.rws_trace.specs.declared.side.Side.TheVariants.{Input, Output}
@@ -30,7 +30,8 @@ use Rattle.rws_worker.specs.declared.work.WorkEnd.TheVariants as ends
 use Rattle.rws_worker.proofs.InteractionLemmas.{IsCutAt, actions_taken-run, cut_at}
 use Rattle.rws_top.specs.Trace.{AnswersTrace, HasHeardAll, IsBegun, IsCut, IsScript, settings_of}
 use Rattle.rws_top.specs.Trace.Traces.{unread, unwritten, out_of_memory, too_many}
-use Rattle.rws_top.specs.Tracing.{IsClosing}
+use Rattle.rws_top.specs.Tracing.{EndsSo, IsClosing, board_over, end_of, failing_end}
+use Rattle.rws_top.specs.declared.trace.TraceEnd.{TraceEnd}
 use Rattle.rws_top.proofs.ScriptLemmas.{StartsWith, starts_with, unread_yet, reads_first, part_first, out_script, heard_all}
 
 -- a front of the lines of what a run did, whose first part this is
@@ -49,15 +50,11 @@ module _ (config : Config) (before taken : Option (List ℕ)) (input output : �
   abbrev pub Answers : ℕ → Type 0
   Answers status = AnswersTrace config before new.left taken new.taken (Rises input new.input_faults) (Rises output new.output_faults) status
 
-  -- what is known of a worker's end
-  abbrev pub Comes : WorkEnd → Type 0
-  Comes ends.Ended = IsClosing config before new.left taken new.taken new.reader.place.events new.reader.place.bad_line
-  Comes ends.BoardFailed = ((new.failed ≡ Some Input) × Answers 4) ⊎ ((new.failed ≡ Some Output) × Answers 5)
-  Comes ends.TooMany = Answers 10
-  Comes ends.OutOfMemory = Answers 9
+  abbrev Ending : TraceEnd → Type 0
+  Ending end = EndsSo config before new.left taken new.taken (Rises input new.input_faults) (Rises output new.output_faults) end
 
   -- the text of a run that rests
-  begins : (run : List Entry) (resting : IsResting config run) → (s : StartsWith config before (events_of run))
+  abbrev begins : (run : List Entry) (resting : IsResting config run) → (s : StartsWith config before (events_of run))
       → IsBegun config s.script (text_of (done_in run))
   begins run resting s = record {
     heard = events_of run;
@@ -73,7 +70,8 @@ module _ (config : Config) (before taken : Option (List ℕ)) (input output : �
       → Appends taken new.taken (text_of (done_in run))
   all_put run put = subst (λ (actions : List Action). Appends taken new.taken (text_of actions)) (actions_taken-run run) put
 
-  closing : (run : List Entry) → IsResting config run → ScriptDid start new (interactions_of run) AtEnd → Comes ends.Ended
+  closing : (run : List Entry) → IsResting config run → ScriptDid start new (interactions_of run) AtEnd
+      → IsClosing config before new.left taken new.taken new.reader.place.events new.reader.place.bad_line
   closing run resting d =
       let e : Ends start new (interactions_of run) = d.stands in
       record {
@@ -88,7 +86,7 @@ module _ (config : Config) (before taken : Option (List ℕ)) (input output : �
         put = all_put run e.printed;
       }
 
-  input_failed : (run : List Entry) → IsResting config run → ScriptDid start new (interactions_of run) (NextFailed faults.Failed) → Comes ends.BoardFailed
+  input_failed : (run : List Entry) → IsResting config run → ScriptDid start new (interactions_of run) (NextFailed faults.Failed) → Answers 4
   input_failed run resting d =
       let f : InputFails start new (interactions_of run) = d.stands.1 in
       let events = events_given (interactions_of run) in
@@ -96,7 +94,7 @@ module _ (config : Config) (before taken : Option (List ℕ)) (input output : �
       starts_with config before (events_of run)
       (subst (λ (xs : List Event). FirstEvents (fresh (settings_of config)) before xs) resting.told
       (part_first config new.reader.place events new.reader.held before new.left f.read)) in
-      inl (d.stands.0, record {
+      record {
         script = s.script;
         printed = text_of (done_in run);
         of_input = s.of_input;
@@ -104,15 +102,15 @@ module _ (config : Config) (before taken : Option (List ℕ)) (input output : �
         by_status = unread refl f.rises (begins run resting s)
             (subst (λ (xs : List Event). HasHeardAll config before new.left xs) resting.told
             (heard_all config new.reader.place events new.reader.held before new.left f.drained f.read));
-      })
+      }
 
   -- A front of the lines of a run was put.
 
   module _ (done : List Interaction) (at : IsCutAt config done) (short : IsCutShort start new done) where
-    lines : List ℕ
+    abbrev lines : List ℕ
     lines = take short.printed.0 (text_of (actions_taken done))
 
-    script_so_far : StartsWith config before (events_given done)
+    abbrev script_so_far : StartsWith config before (events_given done)
     script_so_far = starts_with config before (events_given done) short.read
 
     is_cut : IsCut config script_so_far.script lines
@@ -167,7 +165,7 @@ module _ (config : Config) (before taken : Option (List ℕ)) (input output : �
   -- One more event came and isn't handled.
 
   module _ (run : List Entry) (event : Event) (resting : IsResting config run) (d : ScriptDid start new (interactions_of run ++ Gave event ∷ []) Going) where
-    script_more : StartsWith config before (events_of run ++ event ∷ [])
+    abbrev script_more : StartsWith config before (events_of run ++ event ∷ [])
     script_more =
         let g : Goes start new (interactions_of run ++ Gave event ∷ []) = d.stands in
         starts_with config before (events_of run ++ event ∷ [])
@@ -175,7 +173,7 @@ module _ (config : Config) (before taken : Option (List ℕ)) (input output : �
         (events_given-append (interactions_of run) (Gave event ∷ []) ∙ ap (λ (xs : List Event). xs ++ event ∷ []) resting.told)
         (reads_first config new.reader.place (events_given (interactions_of run ++ Gave event ∷ [])) new.reader.held before new.left g.read))
 
-    script_for : StartsWith config before (events_of run)
+    abbrev script_for : StartsWith config before (events_of run)
     script_for = record {
       script = script_more.script;
       of_input = script_more.of_input;
@@ -216,14 +214,17 @@ module _ (config : Config) (before taken : Option (List ℕ)) (input output : �
             let all = ap length script_for.parted in
             let parts = length-append (events_of run) (event ∷ script_more.ahead) in omega arith
 
-  pub comes : {end : WorkEnd} → Works config (ScriptDid start new) end → Comes end
-  comes (ended run resting d) = closing run resting d
-  comes (untold run resting d) = input_failed run resting d
-  comes (untaken done front d) = inr (d.stands.0, unput done (cut_by done front) d.stands.2 d.stands.1)
-  comes (full run event resting last d) = one_too_many run event resting d last
-  comes (starved run event resting d) = unhandled run event resting d
-  comes (starved_reading run resting d) = cut_for_memory (interactions_of run) (cut_whole run resting) d.stands
-  comes (starved_acting done front d) = cut_for_memory done (cut_by done front) d.stands
+  pub ends_so : {end : WorkEnd} → Works config (ScriptDid start new) end
+      → EndsSo config before new.left taken new.taken (Rises input new.input_faults) (Rises output new.output_faults)
+      (end_of end new.failed new.reader.place.events new.reader.place.bad_line)
+  ends_so (ended run resting d) = closing run resting d
+  ends_so (untold run resting d) = subst (λ (failed : Option Side). Ending (failing_end failed)) (sym d.stands.0) (input_failed run resting d)
+  ends_so (untaken done front d) =
+      subst (λ (failed : Option Side). Ending (failing_end failed)) (sym d.stands.0) (unput done (cut_by done front) d.stands.2 d.stands.1)
+  ends_so (full run event resting last d) = one_too_many run event resting d last
+  ends_so (starved run event resting d) = unhandled run event resting d
+  ends_so (starved_reading run resting d) = cut_for_memory (interactions_of run) (cut_whole run resting) d.stands
+  ends_so (starved_acting done front d) = cut_for_memory done (cut_by done front) d.stands
 
 -- memory was wanting before anything was read
 pub not_begun : (config : Config) (before left taken : Option (List ℕ)) (input_failed output_failed : Type 0)
@@ -241,3 +242,39 @@ not_begun config before left taken input_failed output_failed =
         front = record { rest = []; parted = refl };
       });
     }
+
+module _ {I O : Type 0} (left : I → Option (List ℕ)) (input_faults : I → ℕ) (taken : O → Option (List ℕ)) (output_faults : O → ℕ)
+    (config : Config) (end : WorkEnd) where
+  -- a worker's work over a board that was lent these first, and these then
+  abbrev pub WorksOver : ReaderState → I → O → Option Side → ReaderState → I → O → Option Side → Type 0
+  WorksOver r0 i0 o0 f0 r1 i1 o1 f1 =
+      Works config (ScriptDid (board_over left input_faults taken output_faults r0 i0 o0 f0) (board_over left input_faults taken output_faults r1 i1 o1 f1)) end
+
+  pub same_board : (r0 r0' r1 r1' : ReaderState) (i0 i0' i1 i1' : I) (o0 o0' o1 o1' : O) (f0 f0' f1 f1' : Option Side)
+      → r0 ≡ r0' → i0 ≡ i0' → o0 ≡ o0' → f0 ≡ f0' → r1 ≡ r1' → i1 ≡ i1' → o1 ≡ o1' → f1 ≡ f1'
+      → WorksOver r0 i0 o0 f0 r1 i1 o1 f1 → WorksOver r0' i0' o0' f0' r1' i1' o1' f1'
+  same_board r0 r0' r1 r1' i0 i0' i1 i1' o0 o0' o1 o1' f0 f0' f1 f1' er0 ei0 eo0 ef0 er1 ei1 eo1 ef1 works =
+      subst (λ (f : Option Side). WorksOver r0' i0' o0' f0' r1' i1' o1' f) ef1
+      (subst (λ (o : O). WorksOver r0' i0' o0' f0' r1' i1' o f1) eo1
+      (subst (λ (i : I). WorksOver r0' i0' o0' f0' r1' i o1 f1) ei1
+      (subst (λ (r : ReaderState). WorksOver r0' i0' o0' f0' r i1 o1 f1) er1
+      (subst (λ (f : Option Side). WorksOver r0' i0' o0' f r1 i1 o1 f1) ef0
+      (subst (λ (o : O). WorksOver r0' i0' o f0 r1 i1 o1 f1) eo0
+      (subst (λ (i : I). WorksOver r0' i o0 f0 r1 i1 o1 f1) ei0
+      (subst (λ (r : ReaderState). WorksOver r i0 o0 f0 r1 i1 o1 f1) er0 works)))))))
+
+-- the reader is a fresh one
+pub ends_over : (config : Config) (old new : ScriptBoardState) (end : WorkEnd) (result : TraceEnd) → old.reader ≡ fresh (settings_of config)
+    → result ≡ end_of end new.failed new.reader.place.events new.reader.place.bad_line → Works config (ScriptDid old new) end
+    → EndsSo config old.left new.left old.taken new.taken (Rises old.input_faults new.input_faults) (Rises old.output_faults new.output_faults) result
+ends_over config old new end result first is works =
+    subst (λ (e : TraceEnd). EndsSo config old.left new.left old.taken new.taken (Rises old.input_faults new.input_faults) (Rises old.output_faults new.output_faults) e)
+    (sym is) (ends_so config old.left old.taken old.input_faults old.output_faults old.failed new
+    (subst (λ (r : ReaderState). Works config (ScriptDid (record {
+      reader = r;
+      left = old.left;
+      taken = old.taken;
+      input_faults = old.input_faults;
+      output_faults = old.output_faults;
+      failed = old.failed;
+    }) new) end) first works))

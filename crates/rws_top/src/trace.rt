@@ -1,10 +1,10 @@
 //! A worker over the trace of an input. The board that reads it lives no longer than the worker's run, so that the closing
 //! line is put on the output itself.
-ghost use Rattle.std.specs.Prelude.{◌≡◌, ◌≤◌, IfOk};
+ghost use Rattle.std.specs.Prelude.{◌≡◌, ◌≤◌, None, IfOk};
 ghost use Rattle.rws_board.specs.Faults.{Rises};
 ghost use Rattle.rws_config.specs.Allowed.{IsAllowed};
 ghost use Rattle.rws_top.specs.Trace.{AnswersTrace, closing, settings_of};
-ghost use Rattle.rws_top.specs.Tracing.{EndsSo, PutsClosing};
+ghost use Rattle.rws_top.specs.Tracing.{EndsSo, PutsClosing, board_over, end_of};
 ghost use Rattle.rws_trace.specs.ScriptBoards.{ScriptDid};
 ghost use Rattle.rws_trace.specs.ScriptState.{state_of};
 ghost use Rattle.rws_worker.specs.Working.{Works};
@@ -65,33 +65,58 @@ fn run_script<I: Source, O: Sink>(
         Ok(reader) => reader,
         Err(AllocError) => return TraceEnd::OutOfMemory,
     };
-    let mut board = ScriptBoard::new(alloc, &mut reader, input, out);
-    match work_over(alloc, &mut board, config) {
-        WorkEnd::Ended => TraceEnd::Closes {
-            events: board.events(),
-            bad_line: board.bad_line(),
-        },
-        WorkEnd::BoardFailed => match board.failed() {
-            Some(Side::Input) => TraceEnd::Unread,
-            Some(Side::Output) | None => TraceEnd::Unwritten,
-        },
-        WorkEnd::TooMany => TraceEnd::TooMany,
-        WorkEnd::OutOfMemory => TraceEnd::OutOfMemory,
-    }
+    let (end, failed) = work_over(alloc, config, &mut reader, input, out);
+    trace_end(end, failed, &reader)
 }
 
-/// Runs a worker over the board, which afterwards holds the input and the output that it held.
+/// Runs a worker over a board that is lent these three, and tells which side failed.
 fn work_over<I: Source, O: Sink>(
     alloc: Global,
-    board: &mut ScriptBoard<'_, I, O>,
     config: &Config,
+    reader: &mut EventReader,
+    input: &mut I,
+    out: &mut O,
+) -> (WorkEnd, Option<Side>)
+    ensures works { Works config.now (ScriptDid (board_over I.left I.faults O.taken O.faults reader.old input.old out.old None)
+        (board_over I.left I.faults O.taken O.faults reader.new input.new out.new result.1)) result.0 }
+{
+    let mut board = ScriptBoard::new(alloc, reader, input, out);
+    let end = work_on(alloc, config, &mut board);
+    (end, board.failed())
+}
+
+/// Runs a worker over the board, which afterwards holds what it was lent.
+fn work_on<I: Source, O: Sink>(
+    alloc: Global,
+    config: &Config,
+    board: &mut ScriptBoard<'_, I, O>,
 ) -> WorkEnd
     ensures reader { board.new.reader.ghost_name ≡ board.old.reader.ghost_name }
     ensures input { board.new.input.ghost_name ≡ board.old.input.ghost_name }
     ensures out { board.new.out.ghost_name ≡ board.old.out.ghost_name }
-    ensures works { Works config.now (ScriptDid (state_of I.left I.faults O.taken O.faults board.old) (state_of I.left I.faults O.taken O.faults board.new)) result }
+    ensures works { Works config.now (ScriptDid (state_of I.left I.faults O.taken O.faults board.old)
+        (state_of I.left I.faults O.taken O.faults board.new)) result }
 {
     work_here(alloc, board, config)
+}
+
+/// How the trace ended, from how the worker's work did.
+fn trace_end(end: WorkEnd, failed: Option<Side>, reader: &EventReader) -> TraceEnd
+    ensures { result ≡ end_of end failed reader.now.place.events reader.now.place.bad_line }
+{
+    match end {
+        WorkEnd::Ended => TraceEnd::Closes {
+            events: reader.events(),
+            bad_line: reader.bad_line(),
+        },
+        WorkEnd::BoardFailed => match failed {
+            Some(Side::Input) => TraceEnd::Unread,
+            Some(Side::Output) => TraceEnd::Unwritten,
+            None => TraceEnd::Unwritten,
+        },
+        WorkEnd::TooMany => TraceEnd::TooMany,
+        WorkEnd::OutOfMemory => TraceEnd::OutOfMemory,
+    }
 }
 
 /// What the lines of a trace are read by with these settings.
@@ -101,7 +126,11 @@ fn trace_settings(config: &Config) -> TraceSettings
 {
     TraceSettings {
         servers: config.servers.len() as u8,
-        plain: config.accounts.as_slice().first().is_some_and(|account| account.stored.is_none()),
+        plain: config
+            .accounts
+            .as_slice()
+            .first()
+            .is_some_and(|account| account.stored.is_none()),
     }
 }
 
