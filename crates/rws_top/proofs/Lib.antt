@@ -1,9 +1,7 @@
-pub mod Told
-pub mod Laws
-pub mod Lift
-pub mod Seats
-pub mod Turned
-pub mod Steps
-pub mod Fronts
-pub mod Stops
-pub mod Underway
+-- what a worker's work says, whatever the board
+pub mod WorkLemmas
+-- how much of a script was read and printed
+pub mod ScriptLemmas
+-- how the trace of an input ends
+pub mod EndLemmas
+pub mod ClosingLemmas

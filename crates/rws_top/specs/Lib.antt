@@ -1,4 +1,2 @@
-pub mod Worker
 pub mod Trace
 pub mod Tracing
-pub mod Causes

@@ -1,72 +1,71 @@
--- How far the trace of an input has come, and why it stops.
-use Rattle.std.specs.Prelude.{◌≡◌, ℕ, ◌^◌, ◌<◌, List, [], ◌++◌, length, Option, Some, None, Result, Ok, Err}
+-- How the trace of an input ends, before its closing line is put.
+use Rattle.std.specs.Prelude.{◌≡◌, ℕ, ◌^◌, ◌<◌, List, length, Option, Some, None}
 use Rattle.std.specs.Io.KnownBytes.{Appends, IsAtEnd}
-use Rattle.rws_board.specs.declared.action.Action.{Action}
-use Rattle.rws_board.specs.declared.event.Event.{Event}
-use Rattle.rws_trace.specs.Lines.{lines_of}
-use Rattle.rws_trace.specs.Printing.{text_of}
 use Rattle.rws_board.specs.Put.{AppendsFront}
-use Rattle.rws_trace.specs.Reader.{ReaderState, Ahead, script_at}
-use Rattle.rws_trace.specs.Script.{all_before, script_of}
-use Rattle.rws_session.specs.Run.{Entry, events_of, done_in}
-use Rattle.rws_top.specs.declared.stop.Stop.{Stop}
-use Rattle.rws_top.specs.declared.stop.Stop.TheVariants.{Unread, Unwritten, OutOfMemory, TooManyEvents}
-use Rattle.rws_top.specs.declared.worker.Worker.{Worker}
-use Rattle.rws_top.specs.Trace.{AnswersTrace, trace_settings}
-use Rattle.rws_top.specs.Worker.{WorkerStands, Advances}
+use Rattle.rws_config.specs.declared.config.Config.{Config}
+use Rattle.rws_record.specs.Run.{Entry, IsRunOver, done_in}
+use Rattle.rws_trace.specs.Printing.{text_of}
+use Rattle.rws_trace.specs.Reader.{ReaderState}
+use Rattle.rws_trace.specs.Script.{Script}
+use Rattle.rws_trace.specs.ScriptBoards.{ScriptBoardState}
+use Rattle.rws_trace.specs.declared.side.Side.{Side}
+use Rattle.rws_trace.specs.declared.side.Side.TheVariants.{Input, Output}
+use Rattle.rws_worker.specs.declared.work.WorkEnd.{WorkEnd}
+use Rattle.rws_worker.specs.declared.work.WorkEnd.TheVariants as ends
+use Rattle.rws_top.specs.Trace.{AnswersTrace, IsScript, closing}
+use Rattle.rws_top.specs.declared.trace.TraceEnd.{TraceEnd}
+use Rattle.rws_top.specs.declared.trace.TraceEnd.TheVariants.{Closes, Unread, Unwritten, TooMany, OutOfMemory}
 
-abbrev pub stop_status : Stop → ℕ
-stop_status Unread = 4
-stop_status Unwritten = 5
-stop_status OutOfMemory = 9
-stop_status TooManyEvents = 10
-
-abbrev pub status_of : Result ℕ Stop → ℕ
-status_of (Ok status) = status
-status_of (Err stop) = stop_status stop
-
--- the input was read so far: these events, and what is ahead of the reader
-abbrev pub HasRead : Option (List ℕ) → List Event → ReaderState → Option (List ℕ) → Type 0
-HasRead left heard reader left' =
-    Ahead (λ before ahead. script_of trace_settings before ≡ all_before heard (script_at reader.place (lines_of ahead))) [] left reader.held left'
-
--- between two events: all that came of the events so far is put
-pub record IsUnderway (left taken : Option (List ℕ)) (worker : Worker) (reader : ReaderState) (left' taken' : Option (List ℕ)) : Type 0 where
+-- the script is over, and all but its closing line is put
+pub record IsClosing (config : Config) (before left taken taken' : Option (List ℕ)) (events : ℕ) (bad : Option ℕ) : Type 0 where
+  pub script : Script
+  pub of_input : IsScript config before script
+  pub stops : script.bad_line ≡ bad
+  pub counted : events ≡ length script.events
+  pub few : length script.events < 2 ^ 32
+  pub at_end : bad ≡ None → IsAtEnd left
   pub run : List Entry
-  pub stands : WorkerStands worker run
-  pub counted : reader.place.events ≡ length (events_of run)
-  pub few : length (events_of run) < 2 ^ 32
-  pub read : HasRead left (events_of run) reader left'
+  pub over : IsRunOver config script.events run
   pub put : Appends taken taken' (text_of (done_in run))
 
--- why a text wasn't put as a whole: some front of it was
-abbrev pub PutFails : Stop → Option (List ℕ) → Option (List ℕ) → List ℕ → Type 0 → Type 0
-PutFails Unwritten taken taken' text output_failed = output_failed × AppendsFront taken taken' text
-PutFails OutOfMemory taken taken' text output_failed = AppendsFront taken taken' text
-PutFails _ taken taken' text output_failed = ⊥
+abbrev pub EndsSo : Config → (before left taken taken' : Option (List ℕ)) → (input_failed output_failed : Type 0) → TraceEnd → Type 0
+EndsSo config before left taken taken' input_failed output_failed (Closes events bad) = IsClosing config before left taken taken' events bad
+EndsSo config before left taken taken' input_failed output_failed Unread = AnswersTrace config before left taken taken' input_failed output_failed 4
+EndsSo config before left taken taken' input_failed output_failed Unwritten = AnswersTrace config before left taken taken' input_failed output_failed 5
+EndsSo config before left taken taken' input_failed output_failed TooMany = AnswersTrace config before left taken taken' input_failed output_failed 10
+EndsSo config before left taken taken' input_failed output_failed OutOfMemory = AnswersTrace config before left taken taken' input_failed output_failed 9
 
--- the worker heard of one more event, and all that came of it is put
-pub record Passes (run : List Entry) (event : Event) (worker : Worker) (taken taken' : Option (List ℕ)) : Type 0 where
-  pub actions : List Action
-  pub advances : Advances run event worker actions
-  pub put : Appends taken taken' (text_of actions)
+-- how the trace ends where the worker's work does, on the side that failed
+abbrev pub failing_end : Option Side → TraceEnd
+failing_end (Some Input) = Unread
+failing_end (Some Output) = Unwritten
+failing_end None = Unwritten
 
--- the worker had no memory for the event, or what came of it isn't put as a whole
-pub data PassFails (run : List Entry) (event : Event) (stop : Stop) (taken taken' : Option (List ℕ)) (output_failed : Type 0) : Type 0 where
-  unheard : stop ≡ OutOfMemory → Appends taken taken' [] → PassFails run event stop taken taken' output_failed
-  unprinted : (worker : Worker) (actions : List Action) → Advances run event worker actions
-      → PutFails stop taken taken' (text_of actions) output_failed → PassFails run event stop taken taken' output_failed
+abbrev pub end_of : WorkEnd → Option Side → ℕ → Option ℕ → TraceEnd
+end_of ends.Ended failed events bad = Closes events bad
+end_of ends.BoardFailed failed events bad = failing_end failed
+end_of ends.TooMany failed events bad = TooMany
+end_of ends.OutOfMemory failed events bad = OutOfMemory
+
+-- a board that is lent these
+abbrev pub board_over : {I O : Type 0} → (I → Option (List ℕ)) → (I → ℕ) → (O → Option (List ℕ)) → (O → ℕ)
+    → ReaderState → I → O → Option Side → ScriptBoardState
+board_over left input_faults taken output_faults reader input out failed = record {
+  reader = reader;
+  left = left input;
+  taken = taken out;
+  input_faults = input_faults input;
+  output_faults = output_faults out;
+  failed = failed;
+}
 
 -- the status at the end of a script, which may have stopped at a bad line
 abbrev pub closing_status : Option ℕ → ℕ
 closing_status None = 0
 closing_status (Some line) = 7
 
--- one step of the trace: it goes on, or it is over
-abbrev pub Steps : (left taken : Option (List ℕ)) → Worker → ReaderState → (left' taken' : Option (List ℕ)) → (input_failed output_failed : Type 0)
-    → Result (Option ℕ) Stop → Type 0
-Steps left taken worker reader left' taken' input_failed output_failed (Ok None) = IsUnderway left taken worker reader left' taken'
-Steps left taken worker reader left' taken' input_failed output_failed (Ok (Some status)) =
-    AnswersTrace left taken taken' (IsAtEnd left') input_failed output_failed status
-Steps left taken worker reader left' taken' input_failed output_failed (Err stop) =
-    AnswersTrace left taken taken' (IsAtEnd left') input_failed output_failed (stop_status stop)
+-- the closing line was put, or a front of it
+pub data PutsClosing (taken taken' : Option (List ℕ)) (events : ℕ) (bad : Option ℕ) (output_failed : Type 0) (status : ℕ) : Type 0 where
+  put : status ≡ closing_status bad → Appends taken taken' (closing events bad) → PutsClosing taken taken' events bad output_failed status
+  unput : status ≡ 5 → output_failed → AppendsFront taken taken' (closing events bad) → PutsClosing taken taken' events bad output_failed status
+  starved : status ≡ 9 → AppendsFront taken taken' (closing events bad) → PutsClosing taken taken' events bad output_failed status

@@ -1,11 +1,10 @@
-//! The program's top call: it reads the words, and runs a worker over the events of a trace.
+//! The program's top call: it reads the words of the command line, and runs a worker over the events of a trace.
+//!
+//! Each status says how the run ended, and what was printed by then is a front of what the run of the input's events prints.
 #![tactic(auto)]
 
-mod printer;
 mod run;
-mod stop;
-mod tracer;
-mod worker;
+mod trace;
 
 pub use run::run_here;
 

@@ -75,6 +75,7 @@ module _ (a b c : ScriptBoardState) (xs ys : List Interaction) where
   input_more : Counts a b xs → Goes a b xs → InputFails b c ys → InputFails a c (xs ++ ys)
   input_more counts first next = record {
     rises = let one = counts.input in let two = next.rises in omega arith;
+    drained = next.drained;
     read = reads_more (ReadsPart b.reader.place c.reader.place) (ReadsPart a.reader.place c.reader.place)
         (reads_part-then a.reader.place b.reader.place c.reader.place (events_given xs) (events_given ys)) first.read next.read;
     printed = printed_more first.printed next.printed;

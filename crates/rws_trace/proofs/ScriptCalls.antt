@@ -64,11 +64,11 @@ module _ (reader reader' : ReaderState) (left left' taken : Option (List ℕ)) (
   no_more : PassesOver reader.place reader'.place → reader'.place.events ≡ reader.place.events + 0
   no_more over = ap (λ (place : Place). place.events) over.same ∙ omega arith
 
-  pub input_failed : (side : Option Side) → PassesOver reader.place reader'.place → Rises input input'
+  pub input_failed : (side : Option Side) → PassesOver reader.place reader'.place → Rises input input' → reader'.held ≡ []
       → Ahead (ReadsPart reader.place reader'.place []) reader.held left reader'.held left' → ScriptDid (unread side) (read (Some Input)) [] (NextFailed faults.Failed)
-  input_failed side over rose cut = record {
+  input_failed side over rose drained cut = record {
     counts = record { input = rises; output = omega arith; events = no_more over };
-    stands = (refl, record { rises = rose; read = cut; printed = Appends-nil taken });
+    stands = (refl, record { rises = rose; drained = drained; read = cut; printed = Appends-nil taken });
   }
 
   pub no_memory_to_read : (side : Option Side) → PassesOver reader.place reader'.place → ScriptDid (unread side) (read side) [] (NextFailed faults.OutOfMemory)

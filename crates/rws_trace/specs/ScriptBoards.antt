@@ -1,5 +1,5 @@
 -- What a board does that reads a trace and prints actions.
-use Rattle.std.specs.Prelude.{◌≡◌, ℕ, ◌+◌, ◌-◌, ◌^◌, ◌≤◌, min, List, ◌++◌, length, Option, Some, None, ⊤}
+use Rattle.std.specs.Prelude.{◌≡◌, ℕ, ◌+◌, ◌-◌, ◌^◌, ◌≤◌, min, List, [], ◌++◌, length, Option, Some, None, ⊤}
 use Rattle.std.specs.Io.KnownBytes.{Appends, IsAtEnd}
 use Rattle.rws_board.specs.Boards.{Standing, events_given, actions_taken}
 use Rattle.rws_board.specs.Boards.Standing.{Going, Ended, NextFailed, ActFailed}
@@ -55,9 +55,11 @@ pub record Ends (old new : ScriptBoardState) (interactions : List Interaction) :
   pub end : new.reader.place.bad_line ≡ None → IsAtEnd new.left
   pub printed : Appends old.taken new.taken (text_of (actions_taken interactions))
 
--- the input failed: the events of the whole lines that were read were given, and all lines of actions were printed
+-- the input failed: the events of the whole lines that were read were given, and all lines of actions were printed; no
+-- bytes are held behind the part of a line that was read last
 pub record InputFails (old new : ScriptBoardState) (interactions : List Interaction) : Type 0 where
   pub rises : Rises old.input_faults new.input_faults
+  pub drained : new.reader.held ≡ []
   pub read : AheadOf old new (ReadsPart old.reader.place new.reader.place (events_given interactions))
   pub printed : Appends old.taken new.taken (text_of (actions_taken interactions))
 

@@ -57,6 +57,7 @@ impl EventReader {
         ensures err { OnErr result (PassesOver self.old.place self.new.place) }
         ensures cut { IsErrOf result ReadError.Failed →
             Ahead (ReadsPart self.old.place self.new.place []) self.old.held (I.left input.old) self.new.held (I.left input.new) }
+        ensures drained { IsErrOf result ReadError.Failed → self.new.held ≡ [] }
         ensures counts { I.faults input.old ≤ I.faults input.new }
         ensures failed { IsErrOf result ReadError.Failed → Rises (I.faults input.old) (I.faults input.new) }
     {
@@ -98,6 +99,7 @@ impl EventReader {
         ensures cut { IsErrOf result ReadError.Failed →
             Ahead (λ before rest. (part : List ℕ) × IsFeedless part × (before ≡ part ++ rest))
             self.old.held (I.left input.old) self.new.held (I.left input.new) }
+        ensures drained { IsErrOf result ReadError.Failed → self.new.held ≡ [] }
         ensures counts { I.faults input.old ≤ I.faults input.new }
         ensures failed { IsErrOf result ReadError.Failed → Rises (I.faults input.old) (I.faults input.new) }
     {

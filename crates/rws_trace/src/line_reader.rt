@@ -53,6 +53,7 @@ impl LineReader {
         ensures cut { IsErrOf result ReadError.Failed →
             Ahead (λ before rest. (part : List ℕ) × IsFeedless part × (before ≡ part ++ rest))
             self.old.piece (I.left input.old) self.new.piece (I.left input.new) }
+        ensures drained { IsErrOf result ReadError.Failed → self.new.piece ≡ [] }
         ensures short { result ≡ Ok Found.Line → length self.new.line.items ≤ MAX_LINE }
         ensures end { result ≡ Ok Found.Nothing → IsAtEnd (I.left input.new) }
         ensures counts { I.faults input.old ≤ I.faults input.new }
@@ -74,6 +75,7 @@ impl LineReader {
             self.old.piece (I.left input.old) self.new.piece (I.left input.new)) }
         ensures part { OnOk result (IsPart self.new.line.items) }
         ensures cut { IsErrOf result ReadError.Failed → SameAhead self.old.piece (I.left input.old) self.new.piece (I.left input.new) }
+        ensures drained { IsErrOf result ReadError.Failed → self.new.piece ≡ [] }
         ensures end { result ≡ Ok (Some Found.Nothing) → IsAtEnd (I.left input.new) }
         ensures longer { result ≡ Ok None → length self.old.line.items < length self.new.line.items }
         ensures counts { I.faults input.old ≤ I.faults input.new }

@@ -58,6 +58,7 @@ impl Piece {
     pub fn fill<I: Source>(&mut self, input: &mut I) -> Result<(), Failed>
         ensures ok { OnOk result (Fills self.old (I.left input.old) self.new (I.left input.new)) }
         ensures err { OnErr result (SameAhead self.old (I.left input.old) self.new (I.left input.new)) }
+        ensures drained { OnErr result (self.new ≡ []) }
         ensures counts { I.faults input.old ≤ I.faults input.new }
         ensures failed { OnErr result (Rises (I.faults input.old) (I.faults input.new)) }
     {

@@ -8,4 +8,5 @@ pub mod TurnLemmas
 pub mod EventLemmas
 pub mod TellLemmas
 -- what a board did
+pub mod InteractionLemmas
 pub mod WorkLemmas
