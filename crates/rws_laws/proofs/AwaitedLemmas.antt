@@ -2,16 +2,12 @@
 use Rattle.std.proofs.Common.{◌≡◌, ℕ, Bool, true, false, List, [], ◌∷◌, ◌++◌, drop, refl, sym, ap, subst, ◌∙◌, inl, inr, Option, Some, None}
 use Rattle.std.specs.Prelude.{◌⊎◌, ◌==◌, if◌then◌else◌}
 use Rattle.std.proofs.lemmas.Bool.{eq-eqb}
-use Rattle.rws_wire.specs.declared.close_reason.CloseReason.{CloseReason}
 use Rattle.rws_wire.specs.declared.drop_cause.DropCause.{DropCause}
 use Rattle.rws_wire.specs.declared.drop_cause.DropCause.TheVariants.{BadWire, BadReply, Unasked, End}
-use Rattle.rws_reply.specs.declared.kind.Outcome.{Outcome}
 use Rattle.rws_reply.specs.declared.kind.Progress.{Progress}
 use Rattle.rws_reply.specs.declared.kind.Progress.TheVariants.{More, Whole as Ends}
-use Rattle.rws_reply.specs.Replies.{Payload}
 use Rattle.rws_config.specs.declared.config.Config.{Config}
 use Rattle.rws_record.specs.declared.command.Command.{Command}
-use Rattle.rws_record.specs.declared.proxy_error.ProxyError.{ProxyError}
 use Rattle.rws_record.specs.Item.{Item, Part, Tell, Put}
 use Rattle.rws_record.specs.Item.Item.{ClientBytes, LinkBytes, ClientGone, LinkLost, Replies, Garbles, Strays, TakesFault, Puts}
 use Rattle.rws_record.specs.Item.Purpose.{Asks}
@@ -31,71 +27,48 @@ use Rattle.rws_laws.proofs.LinksLemmas.{loss_closes}
 use Rattle.rws_laws.proofs.SoundLemmas.{legal_sound, clean}
 
 -- what is owed ends the reply, or the session
-data Settles : List Put → Type 0 where
-  ends_it : {number link : ℕ} {command : Command} {payload : Payload} {outcome : Outcome} {others : List Put}
-      → Settles (Tells number (Passes link command payload (Some outcome)) ∷ others)
-  gives_up : {link : ℕ} {cause : DropCause} {others : List Put} → Settles (Drops link cause ∷ others)
-  closes_it : {reason : CloseReason} {others : List Put} → Settles (Closes reason ∷ others)
+abbrev ends_it : List Put → Bool
+ends_it (Tells number (Passes link command payload (Some outcome)) ∷ others) = true
+ends_it (Drops link cause ∷ others) = true
+ends_it (Closes reason ∷ others) = true
+ends_it _ = false
 
 -- the reply to what was sent on a link
 data Awaits (link : ℕ) (past : List Item) : Type 0 where
   awaits : {e : Exchange} → exchange link past ≡ Some e → Awaits link past
-  settles : Settles (owed past) → Awaits link past
+  settles : ends_it (owed past) ≡ true → Awaits link past
   over : is_over past ≡ true → Awaits link past
 
 abbrev Awaiting : List Item → Type 0
 Awaiting past = (link : ℕ) → sent_on past ≡ Some link → Awaits link past
 
-goes_part : (number link : ℕ) (command : Command) (payload : Payload) (others owing : List Put)
-    → owing ≡ Tells number (Passes link command payload None) ∷ others → Settles owing → ⊥
-goes_part number link command payload others owing o ends_it = cc
-goes_part number link command payload others owing o gives_up = cc
-goes_part number link command payload others owing o closes_it = cc
-
-goes_own : (number status : ℕ) (others owing : List Put) → owing ≡ Tells number (Owns status) ∷ others → Settles owing → ⊥
-goes_own number status others owing o ends_it = cc
-goes_own number status others owing o gives_up = cc
-goes_own number status others owing o closes_it = cc
-
-goes_refusal : (number : ℕ) (error : ProxyError) (others owing : List Put) → owing ≡ Tells number (Refuses error) ∷ others
-    → Settles owing → ⊥
-goes_refusal number error others owing o ends_it = cc
-goes_refusal number error others owing o gives_up = cc
-goes_refusal number error others owing o closes_it = cc
-
-owes_some : (owing : List Put) → owing ≡ [] → Settles owing → ⊥
-owes_some owing o ends_it = cc
-owes_some owing o gives_up = cc
-owes_some owing o closes_it = cc
-
 -- What is given out
 
 module _ (config : Config) (past : List Item) (sound : Sound config past) (awaiting : Awaiting past) where
+  -- what changes nothing of it, and doesn't end the reply
+  quiet : (put : Put) (others : List Put) → owed past ≡ put ∷ others → ends_it (put ∷ others) ≡ false
+      → sent_on (Puts put ∷ past) ≡ sent_on past → ((link : ℕ) → exchange link (Puts put ∷ past) ≡ exchange link past)
+      → is_over (Puts put ∷ past) ≡ is_over past → Awaiting (Puts put ∷ past)
+  quiet put others o not same x n = λ link s. elim (awaiting link (sym same ∙ s)) [
+    | awaits a ↦ awaits (x link ∙ a)
+    | settles end ↦ absurd (let e : false ≡ true = sym not ∙ ap ends_it (sym o) ∙ end in cc)
+    | over is ↦ over (n ∙ is)
+  ]
+
   tell_awaits : (number : ℕ) (tell : Tell) (others : List Put) → owed past ≡ Tells number tell ∷ others
       → Awaiting (Puts (Tells number tell) ∷ past)
   tell_awaits number (Passes from command payload (Some outcome)) others o = λ link s. absurd cc
-  tell_awaits number (Passes from command payload None) others o = λ link s. elim (awaiting link s) [
-    | awaits a ↦ awaits a
-    | settles end ↦ absurd (goes_part number from command payload others (owed past) o end)
-    | over is ↦ over is
-  ]
-  tell_awaits number (Owns status) others o = λ link s. elim (awaiting link s) [
-    | awaits a ↦ awaits a
-    | settles end ↦ absurd (goes_own number status others (owed past) o end)
-    | over is ↦ over is
-  ]
-  tell_awaits number (Refuses error) others o = λ link s. elim (awaiting link s) [
-    | awaits a ↦ awaits a
-    | settles end ↦ absurd (goes_refusal number error others (owed past) o end)
-    | over is ↦ over is
-  ]
+  tell_awaits number (Passes from command payload None) others o =
+      quiet (Tells number (Passes from command payload None)) others o refl refl (λ link. refl) refl
+  tell_awaits number (Owns status) others o = quiet (Tells number (Owns status)) others o refl refl (λ link. refl) refl
+  tell_awaits number (Refuses error) others o = quiet (Tells number (Refuses error)) others o refl refl (λ link. refl) refl
 
   -- to give up a link for a fault closes the session
-  loss_settles : (lost : ℕ) → kept_on past ≡ Some lost → Settles (after_loss lost past ++ drop 1 (owed past))
-  loss_settles lost k = let closes = loss_closes past lost k in rw closes.1 closes_it
+  loss_settles : (lost : ℕ) → kept_on past ≡ Some lost → ends_it (after_loss lost past ++ drop 1 (owed past)) ≡ true
+  loss_settles lost k = let closes = loss_closes past lost k in rw closes.1 refl
 
   drop_settles : (lost : ℕ) (cause : DropCause) → IsCaused config (Drops lost cause) past
-      → Settles (owed (Puts (Drops lost cause) ∷ past)) ⊎ (is_over past ≡ true)
+      → (ends_it (owed (Puts (Drops lost cause) ∷ past)) ≡ true) ⊎ (is_over past ≡ true)
   drop_settles lost BadWire caused = inl (loss_settles lost (kept_there sound.one_link lost caused.2))
   drop_settles lost BadReply caused = inl (loss_settles lost (kept_there sound.one_link lost caused.5))
   drop_settles lost Unasked caused = inl (loss_settles lost (kept_there sound.one_link lost caused.1))
@@ -121,7 +94,7 @@ module _ (config : Config) (past : List Item) (sound : Sound config past) (await
     awaited : (link : ℕ) → sent_on past ≡ Some link → (e : Exchange) × (exchange link past ≡ Some e)
     awaited link s = elim (awaiting link s) [
       | awaits {e = e} a ↦ (e, a)
-      | settles end ↦ absurd (owes_some (owed past) o end)
+      | settles end ↦ absurd (let e : false ≡ true = ap ends_it (sym o) ∙ end in cc)
       | over is ↦ absurd cc
     ]
 
@@ -142,8 +115,8 @@ module _ (config : Config) (past : List Item) (sound : Sound config past) (await
 
       reply_awaits : (command : Command) (far : Option Progress) → part.progress ≡ far
           → owed (Replies from part ∷ past) ≡ answer command far → Awaiting (Replies from part ∷ past)
-      reply_awaits command None is now = λ link s. settles (rw now gives_up)
-      reply_awaits command (Some (Ends outcome)) is now = λ link s. settles (rw now ends_it)
+      reply_awaits command None is now = λ link s. settles (rw now refl)
+      reply_awaits command (Some (Ends outcome)) is now = λ link s. settles (rw now refl)
       reply_awaits command (Some More) is now = λ link s. awaits (goes_by link (from == link) refl is s).1
 
     still : (item : Item) → sent_on (item ∷ past) ≡ sent_on past

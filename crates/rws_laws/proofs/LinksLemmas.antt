@@ -1,5 +1,5 @@
 -- A step of a legal record keeps what is known of its links.
-use Rattle.std.proofs.Common.{◌≡◌, ℕ, Bool, true, false, List, [], ◌∷◌, ◌++◌, drop, refl, ap, ◌∙◌, inl, inr, Some}
+use Rattle.std.proofs.Common.{◌≡◌, ℕ, Bool, true, false, List, [], ◌∷◌, ◌++◌, drop, refl, sym, ap, ◌∙◌, inl, inr, Some}
 use Rattle.std.specs.Prelude.{◌⊎◌, ◌==◌}
 use Rattle.std.proofs.lemmas.Bool.{eq-eqb}
 use Rattle.rws_wire.specs.declared.close_reason.CloseReason.{CloseReason}
@@ -7,10 +7,10 @@ use Rattle.rws_wire.specs.declared.close_reason.CloseReason.TheVariants as reaso
 use Rattle.rws_wire.specs.declared.drop_cause.DropCause.{DropCause}
 use Rattle.rws_wire.specs.declared.drop_cause.DropCause.TheVariants.{BadWire, BadReply, Unasked, End}
 use Rattle.rws_config.specs.declared.config.Config.{Config}
-use Rattle.rws_record.specs.Item.{Item, Put, Tell}
+use Rattle.rws_record.specs.Item.{Item, Put}
 use Rattle.rws_record.specs.Item.Item.{ClientBytes, LinkBytes, ClientGone, LinkLost, Puts}
-use Rattle.rws_record.specs.Item.Put.{Tells, Drops, Closes}
-use Rattle.rws_record.specs.Values.{links, kept_on, sent_on, told_from, without}
+use Rattle.rws_record.specs.Item.Put.{Drops, Closes}
+use Rattle.rws_record.specs.Values.{links, kept_on, sent_on, told_from, is_over, without}
 use Rattle.rws_record.specs.Rules.{after_loss, after_loss_by, loss_by, is_link, owed}
 use Rattle.rws_record.specs.Record.{IsInput}
 use Rattle.rws_record.proofs.StepLemmas.{Due}
@@ -69,11 +69,19 @@ links_drop config past link Unasked caused d one_link = links_fault link Unasked
 links_drop config past link End caused d one_link = loses link (Puts (Drops link End)) refl refl (λ e. is_over_now e caused.0) one_link
 links_drop config past link _ caused d one_link = absurd caused
 
-pub links_tell : {past : List Item} (number : ℕ) (tell : Tell) {others : List Put} → owed past ≡ Tells number tell ∷ others → Links past
-    → Links (Puts (Tells number tell) ∷ past)
-links_tell number tell o (has_one link e k) = has_one link e k
-links_tell number tell o (is_over_now e over) = is_over_now e over
-links_tell number tell o (closes_now e reason owes) = absurd cc
+-- a list doesn't begin with a close
+abbrev pub is_no_close : List Put → Bool
+is_no_close (Closes reason ∷ others) = false
+is_no_close _ = true
+
+-- something is given out that changes none of it
+pub links_stay : {past : List Item} (put : Put) {others : List Put} → owed past ≡ put ∷ others → is_no_close (put ∷ others) ≡ true
+    → links (Puts put ∷ past) ≡ links past → kept_on (Puts put ∷ past) ≡ kept_on past
+    → is_over (Puts put ∷ past) ≡ is_over past → Links past → Links (Puts put ∷ past)
+links_stay put o c l k n (has_one link e kept) = has_one link (l ∙ e) (k ∙ kept)
+links_stay put o c l k n (is_over_now e over) = is_over_now (l ∙ e) (n ∙ over)
+links_stay put o c l k n (closes_now e reason owes) =
+    absurd (let e : true ≡ false = sym c ∙ ap is_no_close (sym o ∙ owes) in cc)
 
 pub links_close : {past : List Item} (reason : CloseReason) → Links past → Links (Puts (Closes reason) ∷ past)
 links_close reason (has_one one e k) = has_one one e k

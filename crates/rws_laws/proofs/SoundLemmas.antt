@@ -42,7 +42,7 @@ use Rattle.rws_laws.proofs.Sound.{Caused, Links, IsAsked, Asking, passed, Awaite
 use Rattle.rws_laws.proofs.Sound.Caused.{nothing, drops, closes, tells}
 use Rattle.rws_laws.proofs.Sound.Links.{has_one}
 use Rattle.rws_laws.proofs.Sound.ToldBy.{none_yet, all}
-use Rattle.rws_laws.proofs.LinksLemmas.{links_drop, links_tell, links_close, links_input}
+use Rattle.rws_laws.proofs.LinksLemmas.{is_no_close, links_drop, links_stay, links_close, links_input}
 use Rattle.rws_laws.proofs.ReplyLemmas.{still_asked, asked_on, told_part, unsent_told, told_sent, sent_there, owes_same, lost_passes, drop_passes, farewells_pass, waits_none}
 use Rattle.rws_laws.proofs.OwedLemmas.{farewells_caused, loss_caused, command_caused, fault_caused, owes, part, reply_caused}
 
@@ -54,12 +54,40 @@ one_passed : (list : List Payload) (owing : List Put) (number link : ℕ) (comma
     → list ++ passed owing ≡ (list ++ payload ∷ []) ++ passed (drop 1 owing)
 one_passed list owing number link command payload outcome others o = rw o (sym (append_assoc list (payload ∷ []) (passed others)))
 
+-- something is given out that changes nothing but what is owed
+record IsQuiet (put : Put) (past : List Item) : Type 0 where
+  links : links (Puts put ∷ past) ≡ links past
+  kept : kept_on (Puts put ∷ past) ≡ kept_on past
+  over : is_over (Puts put ∷ past) ≡ is_over past
+  pending : pending (Puts put ∷ past) ≡ pending past
+  sent : sent_on (Puts put ∷ past) ≡ sent_on past
+  told : told (Puts put ∷ past) ≡ told past
+  from : told_from (Puts put ∷ past) ≡ told_from past
+  number : reply_number (Puts put ∷ past) ≡ reply_number past
+  exchange : (link : ℕ) → exchange link (Puts put ∷ past) ≡ exchange link past
+  owes : owed (Puts put ∷ past) ≡ drop 1 (owed past)
+
 module _ (config : Config) (past : List Item) (sound : Sound config past) where
+  quiet_sound : (put : Put) (others : List Put) → owed past ≡ put ∷ others → is_no_close (put ∷ others) ≡ true
+      → passed (put ∷ others) ≡ passed others → IsQuiet put past → Caused config others (Puts put ∷ past)
+      → Sound config (Puts put ∷ past)
+  quiet_sound put others o c p q rest =
+      let left : owed (Puts put ∷ past) ≡ others = q.owes ∙ ap (drop 1) o in
+      record {
+        one_link = links_stay put o c q.links q.kept q.over sound.one_link;
+        sent = rw (q.pending, q.sent, q.kept) sound.sent;
+        telling = rw (q.told, q.from, q.sent, q.pending) sound.telling;
+        asks = still_asked q.pending q.number q.told sound.asks;
+        waits = λ other e a. rw (q.pending, q.sent, q.told)
+            (owes_same (owed past) (owed (Puts put ∷ past)) (ap passed o ∙ p ∙ sym (ap passed left)) sound.waits other e (sym (q.exchange other) ∙ a));
+        owes = subst (λ (list : List Put). Caused config list (Puts put ∷ past)) (sym left) rest;
+      }
+
   tell_sound : (number : ℕ) (tell : Tell) (others : List Put) → owed past ≡ Tells number tell ∷ others
       → IsCaused config (Tells number tell) past → Caused config others (Puts (Tells number tell) ∷ past)
       → Sound config (Puts (Tells number tell) ∷ past)
   tell_sound number (Passes link command payload (Some outcome)) others o cause rest = record {
-    one_link = links_tell number (Passes link command payload (Some outcome)) o sound.one_link;
+    one_link = links_stay (Tells number (Passes link command payload (Some outcome))) o refl refl refl refl sound.one_link;
     sent = λ other e. absurd cc;
     telling = all;
     asks = λ other e. absurd cc;
@@ -71,7 +99,7 @@ module _ (config : Config) (past : List Item) (sound : Sound config past) where
     owes = rw o rest;
   }
   tell_sound number (Passes link command payload None) others o cause rest = record {
-    one_link = links_tell number (Passes link command payload None) o sound.one_link;
+    one_link = links_stay (Tells number (Passes link command payload None)) o refl refl refl refl sound.one_link;
     sent = sound.sent;
     telling = told_part (told past) payload link (pending past) (sent_on past) cause.0.sent;
     asks = asked_on number link command payload cause.0.pending.waits cause.2 sound.asks;
@@ -86,22 +114,10 @@ module _ (config : Config) (past : List Item) (sound : Sound config past) where
         };
     owes = rw o rest;
   }
-  tell_sound number (Owns status) others o cause rest = record {
-    one_link = links_tell number (Owns status) o sound.one_link;
-    sent = sound.sent;
-    telling = sound.telling;
-    asks = still_asked refl refl refl sound.asks;
-    waits = owes_same (owed past) (drop 1 (owed past)) (rw o refl) sound.waits;
-    owes = rw o rest;
-  }
-  tell_sound number (Refuses error) others o cause rest = record {
-    one_link = links_tell number (Refuses error) o sound.one_link;
-    sent = sound.sent;
-    telling = sound.telling;
-    asks = still_asked refl refl refl sound.asks;
-    waits = owes_same (owed past) (drop 1 (owed past)) (rw o refl) sound.waits;
-    owes = rw o rest;
-  }
+  tell_sound number (Owns status) others o cause rest =
+      quiet_sound (Tells number (Owns status)) others o refl refl (record { links = refl; kept = refl; over = refl; pending = refl; sent = refl; told = refl; from = refl; number = refl; exchange = λ link. refl; owes = refl }) rest
+  tell_sound number (Refuses error) others o cause rest =
+      quiet_sound (Tells number (Refuses error)) others o refl refl (record { links = refl; kept = refl; over = refl; pending = refl; sent = refl; told = refl; from = refl; number = refl; exchange = λ link. refl; owes = refl }) rest
 
   drop_owes : (link : ℕ) (cause : DropCause) → drop 1 (owed past) ≡ [] → IsCaused config (Drops link cause) past
       → Caused config (owed (Puts (Drops link cause) ∷ past)) (Puts (Drops link cause) ∷ past)
