@@ -1,4 +1,4 @@
-// The cell and its passes, as their callers see them.
+//! The cell and its passes, as their callers see them.
 ghost use Rattle.std.specs.Prelude.{◌≡◌, ◌≢◌, ◌<◌, IfOk};
 ghost use Rattle.rws_pool.specs.History.{words_after};
 ghost use Rattle.rws_pool.specs.Machine.{NotBelow};

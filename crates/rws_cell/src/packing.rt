@@ -1,4 +1,4 @@
-// The pool words as sixteen numbers, and back. The domain isn't among them.
+//! The pool words as sixteen numbers, and back. The domain isn't among them.
 ghost use Rattle.std.specs.Prelude.{◌≡◌, ◌^◌, ◌<◌, slice_index};
 ghost use Rattle.rws_pool.specs.declared.words.PoolWords.{PoolWords};
 ghost use Rattle.rws_pool.specs.declared.words.State.{State};

@@ -1,4 +1,4 @@
-// The steps of a seat at the cell, in terms of its view.
+//! The steps of a seat at the cell, in terms of its view.
 ghost use Rattle.std.specs.Prelude.{◌≡◌, ◌^◌, ◌<◌, true, slice_index, IfOk, MatchResult};
 ghost use Rattle.crossbeam_utils.specs.Seq.{cell_view, IsSamePass};
 ghost use Rattle.rws_pool.specs.Machine.{CanStep, NotBelow};

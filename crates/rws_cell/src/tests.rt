@@ -1,5 +1,5 @@
-// Two of three passes record 199 commits each in two threads, and read after each: nothing that one of them reads goes
-// back. Then both are joined into the first pass, which finds all commits.
+//! Two of three passes record 199 commits each in two threads, and read after each: nothing that one of them reads goes
+//! back. Then both are joined into the first pass, which finds all commits.
 ghost use Rattle.std.specs.Prelude.{◌≡◌, ◌<◌};
 
 use crate::{Pass, PoolCell};

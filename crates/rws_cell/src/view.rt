@@ -1,4 +1,4 @@
-// What a pass knows of the one history, and the rule that ties it to the words of the cell. No value of a view is made.
+//! What a pass knows of the one history, and the rule that ties it to the words of the cell. No value of a view is made.
 use atomic_table::{Join, Split};
 use crossbeam_utils::atomic::seq_cell;
 use crossbeam_utils::atomic::seq_cell::RuledSeqCell;

@@ -6,7 +6,7 @@ use Rattle.rws_record.specs.Item.{Item}
 use Rattle.rws_record.specs.Rules.{next, ◌or◌}
 use Rattle.rws_record.specs.Run.{Entry, next_entry, step_of, hearing, hearer, untold, record_of, events_of, greatest}
 use Rattle.rws_record.specs.Run.Entry.{Heard, Did}
-use Rattle.rws_record.proofs.StepLemmas.{either, neither}
+use Rattle.rws_record.proofs.StepLemmas.{neither}
 
 -- the entry behind a run, if it isn't an event
 pub data Next (config : Config) (run : List Entry) : Entry → Type 0 where

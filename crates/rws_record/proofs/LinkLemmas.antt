@@ -1,15 +1,15 @@
 -- In a legal run no two sessions have a link in common: a link was opened once, for one session.
-use Rattle.std.proofs.Common.{◌≡◌, ℕ, zero, suc, ◌+◌, ◌<◌, ◌≤◌, Bool, true, false, List, [], ◌∷◌, ◌++◌, refl, sym, ap, subst, ◌∙◌, arith, inl, inr, Option, Some, None}
-use Rattle.std.specs.Prelude.{◌⊎◌, Contains, ◌==◌, filter, length, slice_index_or, if◌then◌else◌}
+use Rattle.std.proofs.Common.{◌≡◌, ℕ, zero, suc, ◌+◌, ◌<◌, ◌≤◌, Bool, true, false, List, [], ◌∷◌, refl, sym, ap, ◌∙◌, arith, inl, inr, Some, None}
+use Rattle.std.specs.Prelude.{Contains, ◌==◌, filter, length, slice_index_or, if◌then◌else◌}
 use Rattle.std.specs.Option.{option_map}
 use Rattle.std.proofs.lemmas.List.Elements.{Contains-append_cases}
 use Rattle.rws_config.specs.declared.config.Config.{Config}
-use Rattle.rws_record.specs.Item.{Item, Put}
+use Rattle.rws_record.specs.Item.{Item}
 use Rattle.rws_record.specs.Item.Item.{Began, ClientBytes, LinkBytes, ClientGone, LinkLost, Replies, Garbles, Strays, Takes, TakesFault, Puts}
 use Rattle.rws_record.specs.Item.Put.{Tells, Sends, Drops, Closes}
 use Rattle.rws_record.specs.Values.{links, opens}
 use Rattle.rws_record.specs.Run.{Entry, IsRun, record_of, link_by, last_link}
-use Rattle.rws_record.specs.Run.Entry.{Came, Heard, Did}
+use Rattle.rws_record.specs.Run.Entry.{Heard}
 use Rattle.rws_record.specs.Run.IsRun.{starts, came, goes_on}
 use Rattle.rws_record.specs.Laws.{Apart}
 use Rattle.rws_record.proofs.StepLemmas.{of_next, step_opens_none, input_opens_none}

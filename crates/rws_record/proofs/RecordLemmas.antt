@@ -1,6 +1,6 @@
 -- In a legal run the record of each session is legal. A session rests unless it is the one that heard of the last event.
 use Rattle.std.proofs.Common.{◌≡◌, ℕ, suc, ◌+◌, ◌<◌, max, Bool, true, false, List, [], ◌∷◌, refl, sym, ap, subst, ◌∙◌, arith, inl, inr, Option, Some, None}
-use Rattle.std.specs.Prelude.{◌⊎◌, Contains, nat_lt, ◌==◌, ◌&&◌, not, drop, length, if◌then◌else◌}
+use Rattle.std.specs.Prelude.{◌⊎◌, Contains, nat_lt, ◌==◌, ◌&&◌, not, length, if◌then◌else◌}
 use Rattle.std.specs.Option.{option_map}
 use Rattle.std.proofs.lemmas.Bool.{ltb-true, eqb-true, eqb-false}
 use Rattle.rws_wire.specs.Payloads.{payload_behind, first_payload}
@@ -13,7 +13,7 @@ use Rattle.rws_record.specs.Values.{links, is_over, contains}
 use Rattle.rws_record.specs.Rules.{next}
 use Rattle.rws_record.specs.Record.{IsRecord, IsInput}
 use Rattle.rws_record.specs.Record.IsRecord.{begins, steps, hears}
-use Rattle.rws_record.specs.Run.{Entry, IsRun, next_entry, record_of, is_live, begun_by, greatest, last_link, owner, if_so, told_by, told_to, told_on, untold, hearer, step_of, hearing}
+use Rattle.rws_record.specs.Run.{Entry, IsRun, next_entry, record_of, is_live, begun_by, greatest, last_link, owner, if_so, told_by, told_on, untold, hearer, step_of}
 use Rattle.rws_record.specs.Run.Entry.{Came, Heard, Did}
 use Rattle.rws_record.specs.Run.IsRun.{starts, came, goes_on}
 use Rattle.rws_record.specs.Laws.{Records}
@@ -62,7 +62,7 @@ none_from_map : (session : ℕ) (step : Option Item) → option_map {U = Entry} 
 none_from_map session None e = refl
 none_from_map session (Some item) e = absurd cc
 
-rests_each : {config : Config} (run : List Entry) → Each config run → step_of config (hearer run) run ≡ None → (session : ℕ)
+pub rests_each : {config : Config} (run : List Entry) → Each config run → step_of config (hearer run) run ≡ None → (session : ℕ)
     → next config (record_of session run) ≡ None
 rests_each {config} run each quiet session = by_hearer (hearer run) refl quiet
   where

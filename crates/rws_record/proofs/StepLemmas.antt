@@ -1,5 +1,5 @@
 -- How a legal record goes on: what its newest item says of the record below it.
-use Rattle.std.proofs.Common.{◌≡◌, ℕ, suc, Bool, true, false, List, [], ◌∷◌, refl, sym, ap, subst, ◌∙◌, arith, inl, inr, Option, Some, None}
+use Rattle.std.proofs.Common.{◌≡◌, ℕ, suc, Bool, true, false, List, [], ◌∷◌, refl, ap, subst, arith, inl, inr, Option, Some, None}
 use Rattle.std.specs.Prelude.{◌⊎◌, Contains, if◌then◌else◌}
 use Rattle.rws_wire.specs.declared.fault.WireFault.{WireFault}
 use Rattle.rws_wire.specs.Payloads.{Beginning, first_payload}
@@ -8,12 +8,12 @@ use Rattle.rws_config.specs.declared.config.Config.{Config}
 use Rattle.rws_config.specs.declared.limits.TheConstants.{SERVER_PAYLOAD}
 use Rattle.rws_record.specs.declared.command.Command.{Command}
 use Rattle.rws_record.specs.Item.{Item, Put}
-use Rattle.rws_record.specs.Item.Item.{Began, ClientBytes, LinkBytes, ClientGone, LinkLost, Replies, Garbles, Strays, Takes, TakesFault, Puts}
+use Rattle.rws_record.specs.Item.Item.{ClientBytes, LinkBytes, ClientGone, LinkLost, Replies, Garbles, Strays, Takes, TakesFault, Puts}
 use Rattle.rws_record.specs.Item.Put.{Sends}
 use Rattle.rws_record.specs.Item.Purpose.{Asks}
 use Rattle.rws_record.specs.Judging.{judged}
 use Rattle.rws_record.specs.Values.{opens, held, links, contains, kept_on, Exchange, exchange, link_held, pending, sent_on, is_over}
-use Rattle.rws_record.specs.Rules.{next, next_by, owed, due, due_send, due_arrival, due_take, send_by, arrival, part_of, reply_by, take_by, taking, is_some_byte, ◌or◌}
+use Rattle.rws_record.specs.Rules.{next, next_by, owed, due, due_send, due_arrival, due_take, send_by, arrival, part_of, reply_by, take_by, ◌or◌}
 use Rattle.rws_record.specs.Record.{IsInput}
 
 -- what is due of bytes that came

@@ -2,7 +2,6 @@
 use Rattle.std.specs.Prelude.{◌≡◌, ◌⊎◌, ℕ, List, [], Contains}
 use Rattle.rws_board.specs.declared.event.Event.{Event}
 use Rattle.rws_config.specs.declared.config.Config.{Config}
-use Rattle.rws_record.specs.Item.{Item}
 use Rattle.rws_record.specs.Values.{links}
 use Rattle.rws_record.specs.Record.{IsRecord}
 use Rattle.rws_record.specs.Run.{Entry, IsRun, IsRunOver, record_of, done_in}

@@ -1,5 +1,5 @@
 -- What the client and the servers see of what a session gives out.
-use Rattle.std.specs.Prelude.{ℕ, List, [], ◌∷◌, ◌++◌, codes, false}
+use Rattle.std.specs.Prelude.{ℕ, List, [], ◌∷◌, ◌++◌, false}
 use Rattle.rws_wire.specs.Packets.{spelling}
 use Rattle.rws_msgs.specs.ErrLayout.{err_bytes}
 use Rattle.rws_msgs.specs.OkLayout.{ok_bytes}

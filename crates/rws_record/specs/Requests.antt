@@ -1,6 +1,6 @@
 -- Which command a payload is, by its first byte ("Text protocol", "Utility commands" and "Binary protocol (prepared
 -- statements)" of MariaDB's documentation).
-use Rattle.std.specs.Prelude.{ℕ, List, [], ◌∷◌, ◌==◌, ◌||◌, if◌then◌else◌}
+use Rattle.std.specs.Prelude.{ℕ, List, [], ◌∷◌, ◌==◌, if◌then◌else◌}
 use Rattle.rws_msgs.specs.declared.command.TheConstants.{COM_QUIT, COM_QUERY, COM_FIELD_LIST, COM_PING, COM_SET_OPTION, COM_STMT_FETCH, COM_RESET_CONNECTION}
 use Rattle.rws_record.specs.declared.request.Request.{Request}
 use Rattle.rws_record.specs.declared.request.Request.TheVariants.{Quit, Ping, Query, FieldList, Unsupported, Unknown}

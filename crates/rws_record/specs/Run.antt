@@ -7,7 +7,7 @@ use Rattle.rws_board.specs.declared.event.Event.TheVariants as events
 use Rattle.rws_board.specs.declared.action.Action.{Action}
 use Rattle.rws_config.specs.declared.config.Config.{Config}
 use Rattle.rws_record.specs.Item.{Item}
-use Rattle.rws_record.specs.Item.Item.{Began, ClientBytes, LinkBytes, ClientGone, LinkLost, Puts}
+use Rattle.rws_record.specs.Item.Item.{Began, ClientBytes, LinkBytes, ClientGone, LinkLost}
 use Rattle.rws_record.specs.Values.{opens, links, is_over, contains}
 use Rattle.rws_record.specs.Rules.{next, ◌or◌}
 use Rattle.rws_record.specs.Outputs.{outs_of}

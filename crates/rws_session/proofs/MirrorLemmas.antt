@@ -1,24 +1,22 @@
 -- What code makes of its state in a step is the state of the record with the step's item.
-use Rattle.std.proofs.Common.{◌≡◌, ◌≤◌, ℕ, length, take, Bool, true, false, not, List, [], ◌∷◌, ◌++◌, map, refl, sym, ap, subst, ◌∙◌, Option, Some, None}
-use Rattle.std.specs.Prelude.{filter, ◌==◌, if◌then◌else◌}
+use Rattle.std.proofs.Common.{◌≡◌, ◌≤◌, ℕ, length, take, Bool, true, false, List, [], ◌∷◌, map, refl, ap, ◌∙◌, Option, Some, None}
+use Rattle.std.specs.Prelude.{◌==◌}
 use Rattle.std.proofs.lemmas.Simd.{map-map}
 use Rattle.std.proofs.lemmas.List.{map-append, take_all}
-use Rattle.rws_wire.specs.declared.drop_cause.DropCause.{DropCause}
 use Rattle.rws_wire.specs.declared.drop_cause.DropCause.TheVariants.{End}
-use Rattle.rws_reply.specs.declared.kind.Outcome.{Outcome}
 use Rattle.rws_config.specs.declared.config.Config.{Config}
 use Rattle.rws_record.specs.Item.{Item, Put}
 use Rattle.rws_record.specs.Item.Item.{Puts}
 use Rattle.rws_record.specs.Item.Put.{Tells, Sends, Drops, Closes}
 use Rattle.rws_record.specs.Item.Tell.{Passes, Owns, Refuses}
 use Rattle.rws_record.specs.Values.{links, without}
-use Rattle.rws_record.specs.Rules.{owed, farewells, after_loss, follow, is_loss}
+use Rattle.rws_record.specs.Rules.{owed, after_loss, is_loss}
 use Rattle.rws_session.specs.declared.link.Link.{Link}
 use Rattle.rws_session.specs.declared.owing.Out.{Out}
 use Rattle.rws_session.specs.declared.owing.Out.TheVariants as outs
 use Rattle.rws_session.specs.State.{State, erased, link_of, state_of}
 use Rattle.rws_session.specs.Table.{without_number}
-use Rattle.rws_session.specs.Steps.{after_out, passed, gives_up, loses, ends}
+use Rattle.rws_session.specs.Steps.{after_out, gives_up}
 
 -- what is kept of a record, but for what is owed
 abbrev pub owing_else : Config → List Item → List (Option Out) → State

@@ -5,8 +5,7 @@ use Rattle.std.proofs.lemmas.Result.{IfOk-weaker}
 use Rattle.std.specs.Prelude.{◌==◌, ◌||◌, if◌then◌else◌}
 use Rattle.std.specs.List.{list_any}
 use Rattle.rws_record.specs.Item.{Item}
-use Rattle.rws_record.specs.Values.{contains, exchange, link_held, link_fault}
-use Rattle.rws_record.specs.Rules.{arrival, due_arrival}
+use Rattle.rws_record.specs.Values.{contains, link_fault}
 use Rattle.rws_session.specs.declared.link.Arrival.{Arrival}
 use Rattle.rws_session.specs.declared.link.Arrival.TheVariants as arrivals
 use Rattle.rws_session.specs.declared.link.Link.{Link}

@@ -1,6 +1,6 @@
 -- Each kind of step, where it was tried on a session that keeps what it is to keep: it makes the item that is due.
-use Rattle.std.proofs.Common.{◌≡◌, ℕ, Bool, true, false, not, List, [], ◌∷◌, ◌++◌, map, refl, sym, ap, subst, ◌∙◌, inl, inr, Option, Some, None, Ok, Err}
-use Rattle.std.specs.Prelude.{◌==◌, ◌&&◌, if◌then◌else◌, is_some, is_none}
+use Rattle.std.proofs.Common.{◌≡◌, ℕ, Bool, true, false, List, [], ◌∷◌, ◌++◌, map, refl, sym, ap, subst, ◌∙◌, inl, inr, Option, Some, None, Ok, Err}
+use Rattle.std.specs.Prelude.{◌==◌, if◌then◌else◌, is_some}
 use Rattle.std.specs.List.{list_any}
 use Rattle.std.proofs.lemmas.List.{append-nil}
 use Rattle.rws_wire.specs.Deframing.{Deframing, HandsOut, next_of, unless_stopped}
@@ -33,7 +33,7 @@ use Rattle.rws_session.specs.declared.owing.Out.{Out}
 use Rattle.rws_session.specs.State.{State, awaited_of, erased, link_of, state_of}
 use Rattle.rws_session.specs.Table.{ReadsFirst, at, item_of, owing}
 use Rattle.rws_session.specs.Kept.{Kept, Is}
-use Rattle.rws_session.specs.Steps.{SendsPending, Tries, Went, action_of, after_out, due_put, gives, owes, owes_for, owes_reply, pending_by, sendable_by, sends, takes}
+use Rattle.rws_session.specs.Steps.{SendsPending, Went, action_of, after_out, due_put, gives, owes, owes_for, owes_reply, pending_by, sendable_by, sends, takes}
 use Rattle.rws_session.proofs.RecordLemmas.{client_sound, links_distinct}
 use Rattle.rws_session.proofs.TableLemmas.{apart, changed_at, has_is, itself}
 use Rattle.rws_session.proofs.MirrorLemmas.{put_is, owing_else}
@@ -140,6 +140,16 @@ pub sent_nothing : (config : Config) (past : List Item) (k : Kept) → Is config
 sent_nothing config past k is none =
     sendable_is past (rw is.mirrors at none)
 
+-- the link that a command is sent on, and every other
+
+sent_here : (past : List Item) (link : ℕ) (command : Command)
+    → link_of (Puts (Sends link (Asks command)) ∷ past) link ≡ owing (awaited_of (asked (Asks command))) (link_of past link)
+sent_here past link command = rw (itself link) refl
+
+sent_elsewhere : (past : List Item) (link : ℕ) (command : Command) (other : ℕ) → (other == link) ≡ false
+    → link_of (Puts (Sends link (Asks command)) ∷ past) other ≡ link_of past other
+sent_elsewhere past link command other differ = rw (apart other link differ) refl
+
 pub sent : (config : Config) (past : List Item) (link : ℕ) (old new : Kept) → Is config old past → owed past ≡ []
     → sendable_by old.state.pending old.state.sent_on old.state.kept_on old.state.links ≡ Some link
     → SendsPending link old.state.pending old new → Went config (due_send past) past old new
@@ -156,7 +166,7 @@ sent config past link old new is o some went =
         state = ap (λ (k : Kept). k.state) made
             ∙ ap (λ (state : State). record state { links = at link (owing (awaited_of (asked (Asks s.command)))) state.links; sent_on = Some link }) is.mirrors
             ∙ rw (changed_at past link (owing (awaited_of (asked (Asks s.command)))) (link_of (Puts (Sends link (Asks s.command)) ∷ past))
-            (links past) (links_distinct is.legal) (λ other differ. rw (apart other link differ) refl) (rw (itself link) refl))
+            (links past) (links_distinct is.legal) (sent_elsewhere past link s.command) (sent_here past link s.command))
             (rw o refl);
       };
     }

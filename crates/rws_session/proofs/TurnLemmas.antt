@@ -1,16 +1,15 @@
 -- A whole turn: what is heard, and the steps until the session rests.
-use Rattle.std.proofs.Common.{◌≡◌, ℕ, suc, Bool, true, false, List, [], ◌∷◌, ◌++◌, length, refl, sym, ap, subst, ◌∙◌, arith, Option, Some, None}
-use Rattle.std.specs.Prelude.{Contains, ◌==◌, if◌then◌else◌}
+use Rattle.std.proofs.Common.{◌≡◌, ℕ, Bool, true, false, List, [], ◌∷◌, ◌++◌, refl, sym, ap, subst, ◌∙◌, None}
+use Rattle.std.specs.Prelude.{◌==◌}
 use Rattle.std.specs.List.{list_any}
-use Rattle.std.proofs.Common.{eqb-true, map}
-use Rattle.std.proofs.lemmas.List.{append-nil, append_assoc, map-append}
+use Rattle.std.proofs.Common.{map}
+use Rattle.std.proofs.lemmas.List.{append-nil, append_assoc}
 use Rattle.rws_board.specs.declared.action.Action.{Action}
 use Rattle.rws_config.specs.declared.config.Config.{Config}
 use Rattle.rws_record.specs.Item.{Item}
-use Rattle.rws_record.specs.Item.Item.{ClientBytes, LinkBytes, ClientGone, LinkLost}
+use Rattle.rws_record.specs.Item.Item.{LinkBytes}
 use Rattle.rws_record.specs.Values.{contains, is_over, links}
-use Rattle.rws_record.specs.Rules.{after_loss, next, owed}
-use Rattle.rws_record.specs.Record.{GoesOn, IsInput}
+use Rattle.rws_record.specs.Rules.{after_loss, next}
 use Rattle.rws_record.specs.Record.IsRecord.{steps, hears}
 use Rattle.rws_record.specs.Record.GoesOn.{stays, then as goes_then}
 use Rattle.rws_record.specs.Outputs.{actions_of, outs_of}
@@ -19,11 +18,11 @@ use Rattle.rws_record.proofs.StepLemmas.{rests_owing_nothing}
 use Rattle.rws_session.specs.declared.link.Link.{Link}
 use Rattle.rws_session.specs.declared.input.SessionInput.{SessionInput}
 use Rattle.rws_session.specs.declared.input.SessionInput.TheVariants as inputs
-use Rattle.rws_session.specs.State.{State, erased, link_of, state_of}
+use Rattle.rws_session.specs.State.{State, erased, link_of}
 use Rattle.rws_session.specs.Table.{at, fed}
 use Rattle.rws_session.specs.Kept.{Is, Kept, Stands}
-use Rattle.rws_session.specs.Turning.{Settles, Turns, heard, heard_open}
-use Rattle.rws_session.specs.Steps.{Goes, Hears, Rests, Tries, Went, ends, loses}
+use Rattle.rws_session.specs.Turning.{heard, heard_open}
+use Rattle.rws_session.specs.Steps.{Goes, Hears, Rests, Tries, ends, loses}
 use Rattle.rws_session.proofs.RecordLemmas.{links_distinct}
 use Rattle.rws_session.proofs.TableLemmas.{apart, changed_at, has_is, itself}
 use Rattle.rws_session.proofs.MirrorLemmas.{farewells_are, without_is}
@@ -137,6 +136,15 @@ hears_no_loss config past link k stands n none =
     let h = hearing config past k stands n in
     hears_open config past (inputs.LinkGone link) false k k h.goes_on (rw (has config past link k false h.is none) refl)
 
+-- the link that bytes come on, and every other
+
+fed_here : (past : List Item) (link : ℕ) (bytes : List ℕ) → link_of (LinkBytes link bytes ∷ past) link ≡ fed bytes (link_of past link)
+fed_here past link bytes = rw (itself link) refl
+
+fed_elsewhere : (past : List Item) (link : ℕ) (bytes : List ℕ) (other : ℕ) → (other == link) ≡ false
+    → link_of (LinkBytes link bytes ∷ past) other ≡ link_of past other
+fed_elsewhere past link bytes other differ = rw (apart other link differ) refl
+
 pub hears_bytes : (config : Config) (past : List Item) (link : ℕ) (bytes : List ℕ) (old new : Kept) → Stands config old past
     → old.state.over ≡ false → true ≡ list_any (λ (other : Link). other.number == link) old.state.links
     → new ≡ record old { state = record old.state { links = at link (fed bytes) old.state.links } }
@@ -155,7 +163,7 @@ hears_bytes config past link bytes old new stands n some now =
             ∙ rw (
               o,
               changed_at past link (fed bytes) (link_of (LinkBytes link bytes ∷ past)) (links past) (links_distinct h.is.legal)
-                  (λ other differ. rw (apart other link differ) refl) (rw (itself link) refl),
+                  (fed_elsewhere past link bytes) (fed_here past link bytes),
             ) refl;
         legal = hears h.is.legal h.rests h.goes_on (contained link (links past) it);
       },

@@ -5,7 +5,6 @@ use Rattle.rws_wire.specs.Packets.{spelling, number_behind}
 use Rattle.rws_wire.specs.declared.close_reason.CloseReason.{CloseReason}
 use Rattle.rws_wire.specs.declared.drop_cause.DropCause.{DropCause}
 use Rattle.rws_wire.specs.declared.drop_cause.DropCause.TheVariants.{BadReply, BadWire, End, Unasked}
-use Rattle.rws_wire.specs.declared.fault.WireFault.{WireFault}
 use Rattle.rws_msgs.specs.ErrLayout.{err_bytes}
 use Rattle.rws_reply.specs.declared.kind.Outcome.{Outcome}
 use Rattle.rws_reply.specs.declared.kind.Progress.{Progress}
@@ -14,7 +13,7 @@ use Rattle.rws_board.specs.declared.action.Action.{Action}
 use Rattle.rws_board.specs.declared.action.Action.TheVariants as actions
 use Rattle.rws_config.specs.declared.config.Config.{Config}
 use Rattle.rws_record.specs.declared.command.Command.{Command}
-use Rattle.rws_record.specs.Item.{Item, Judged, Put, Purpose}
+use Rattle.rws_record.specs.Item.{Item, Judged, Put}
 use Rattle.rws_record.specs.Item.Item.{Puts}
 use Rattle.rws_record.specs.Item.Judged.{Serves}
 use Rattle.rws_record.specs.Item.Purpose.{Asks}

@@ -1,5 +1,5 @@
 -- The links that a session has, as code keeps them.
-use Rattle.std.specs.Prelude.{◌≡◌, ℕ, Bool, true, false, not, ◌==◌, List, [], ◌∷◌, ◌++◌, filter, map, Option, Some, None, if◌then◌else◌}
+use Rattle.std.specs.Prelude.{◌≡◌, ℕ, true, false, not, ◌==◌, List, [], ◌∷◌, ◌++◌, filter, map, Option, Some, None, if◌then◌else◌}
 use Rattle.rws_record.specs.Item.{Item, Part}
 use Rattle.rws_record.specs.Item.Item.{Replies, Garbles, Strays}
 use Rattle.rws_record.specs.Values.{contains, exchange, link_held, link_fault}

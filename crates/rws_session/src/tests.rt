@@ -1,9 +1,12 @@
 //! One session from its first command to its end, with ample memory.
 
+ghost use Rattle.std.specs.Prelude.{◌≡◌, [], OnOk};
+
 use super::*;
 use rws_board::Action;
 use rws_config::built_in;
 use rws_wire::Text;
+use std::alloc::AllocError;
 use std::test::Fail;
 
 /// A result of one row, in packets from number 1 on: the number of columns, a definition, an EOF, the row, an EOF.
@@ -22,11 +25,28 @@ const TURNS: [(bool, &[u8], &[u8], &[u8]); 5] = [
     (true, b"\x01\0\0\0\x01", b"", b""),
 ];
 
+/// Fetches all that was given out: the bytes for the client and for the link, and how many outputs there were.
+fn fetch(session: &mut Session, told: &mut Vec<u8>, sent: &mut Vec<u8>) -> Result<u8, AllocError>
+    ensures { OnOk result (session.new.outs ≡ []) }
+{
+    for count in 0..u8::MAX {
+        match session.next_out() {
+            None => return Ok(count),
+            Some(Action::ToClient { session: _, bytes }) => told.extend_from_slice(
+                bytes.as_slice(),
+            )?,
+            Some(Action::ToLink { link: _, bytes }) => sent.extend_from_slice(bytes.as_slice())?,
+            Some(_) => {}
+        }
+    }
+    Err(AllocError)
+}
+
 #[test]
 fn session(rt: HostRuntime) -> Result<(), Fail> {
     let config = built_in(rt.alloc())?;
     let mut session = Session::begin(rt.alloc(), 7, 0, 1, &config)?;
-    for (from_client, piece, told, sent) in TURNS {
+    for (from_client, piece, to_client, to_link) in TURNS {
         let bytes = Text::from_slice(rt.alloc(), piece)?;
         let input = if from_client {
             SessionInput::Client(bytes)
@@ -34,32 +54,21 @@ fn session(rt: HostRuntime) -> Result<(), Fail> {
             SessionInput::Link { link: 1, bytes }
         };
         session.turn(input)?;
-        let mut to_client = Vec::new(rt.alloc());
-        let mut to_link = Vec::new(rt.alloc());
-        while let Some(action) = session.next_out() {
-            match action {
-                Action::ToClient { session: _, bytes } => to_client.extend_from_slice(
-                    bytes.as_slice(),
-                )?,
-                Action::ToLink { link: _, bytes } => to_link.extend_from_slice(bytes.as_slice())?,
-                Action::Drop { .. } | Action::Close { .. } => {}
-            }
-        }
-        assert_eq!(rt; to_client.as_slice(), told);
-        assert_eq!(rt; to_link.as_slice(), sent);
+        let mut told = Vec::new(rt.alloc());
+        let mut sent = Vec::new(rt.alloc());
+        fetch(&mut session, &mut told, &mut sent)?;
+        assert_eq!(rt; told.as_slice(), to_client);
+        assert_eq!(rt; sent.as_slice(), to_link);
         assert!(rt; session.has_link(1));
     }
-    let rest = Text::from_slice(rt.alloc(), &RESULT[5..])?;
-    session.turn(SessionInput::Link {
-        link: 1,
-        bytes: rest,
-    })?;
-    let mut count = 0;
-    while session.next_out().is_some() {
-        count += 1;
-    }
+    let bytes = Text::from_slice(rt.alloc(), &RESULT[5..])?;
+    session.turn(SessionInput::Link { link: 1, bytes })?;
+    let count = fetch(
+        &mut session,
+        &mut Vec::new(rt.alloc()),
+        &mut Vec::new(rt.alloc()),
+    )?;
     assert_eq!(rt; count, 7);
-    assert!(rt; session.is_over());
-    assert!(rt; !session.has_link(1));
+    assert!(rt; session.is_over() && !session.has_link(1));
     Ok(())
 }

@@ -142,7 +142,7 @@ module _ (config : Config) (old new : Worker) (run : List Entry) (event : Event)
           begun = begun ∙ w.begun ∙ sym t.begun;
         };
         heard = t.heard_one;
-    did = t.did;
+        did = t.did;
       }
 
 -- A session begins

@@ -152,4 +152,3 @@ module _ {config : Config} {did : List Interaction → Standing → Type 0} {wor
   pub ends_starved : {now_did : List Interaction → Standing → Type 0}
       → TakesSome now_did (interactions_of u.run ++ Gave event ∷ []) given_one faults.OutOfMemory → Works config now_did ends.OutOfMemory
   ends_starved some = starved_acting ((interactions_of u.run ++ Gave event ∷ []) ++ some.done) (front some) some.some_done
-

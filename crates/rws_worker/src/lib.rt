@@ -11,3 +11,6 @@ mod worker;
 pub use step::Step;
 pub use work::{WorkEnd, work_here};
 pub use worker::Worker;
+
+#[cfg(test)]
+mod tests;

@@ -105,7 +105,7 @@ impl Session {
     fn is_unsent(&self) -> bool
         ensures { result ≡ (is_some self.now.state.pending && is_none self.now.state.sent_on) }
     {
-        self.pending.is_some() && self.sent_on.is_none()
+        self.is_busy() && self.sent_on.is_none()
     }
 
     /// Sends the pending command on a link.

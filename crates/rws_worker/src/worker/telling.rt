@@ -21,7 +21,12 @@ use std::collections::VecDeque;
 
 impl Worker {
     /// A session begins, where its number is above all before and the settings have its server.
-    pub(super) fn begin(&mut self, session: u32, server: u8, config: &Config) -> Result<(), AllocError>
+    pub(super) fn begin(
+        &mut self,
+        session: u32,
+        server: u8,
+        config: &Config,
+    ) -> Result<(), AllocError>
         requires fetched { self.old.outs.items ≡ [] }
         requires run { HasRun config.now self.old }
         ensures { (run : List Entry) → WorkerStands config.now self.old run
@@ -46,7 +51,12 @@ impl Worker {
     }
 
     /// Tells an input to a session, if it goes on. A session that is over then is forgotten.
-    pub(super) fn tell(&mut self, session: u32, input: SessionInput, config: &Config) -> Result<(), AllocError>
+    pub(super) fn tell(
+        &mut self,
+        session: u32,
+        input: SessionInput,
+        config: &Config,
+    ) -> Result<(), AllocError>
         requires fetched { self.old.outs.items ≡ [] }
         requires run { HasRun config.now self.old }
         ensures { (run : List Entry) → WorkerStands config.now self.old run → (event : Event) → begun_by event ≡ 0
@@ -65,7 +75,12 @@ impl Worker {
     }
 
     /// Tells an input to the session that a link belongs to.
-    pub(super) fn tell_on(&mut self, link: u64, input: SessionInput, config: &Config) -> Result<(), AllocError>
+    pub(super) fn tell_on(
+        &mut self,
+        link: u64,
+        input: SessionInput,
+        config: &Config,
+    ) -> Result<(), AllocError>
         requires fetched { self.old.outs.items ≡ [] }
         requires run { HasRun config.now self.old }
         requires on { IsOn link input }

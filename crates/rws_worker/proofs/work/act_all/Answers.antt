@@ -11,13 +11,16 @@ loop-action-init g c = (([], refl, λ start before did. none_taken (g.B.Board.di
 pub loop-action-preserved : goal.loop-action-preserved
 loop-action-preserved g c =
     let inv = c.loop-action.invariant in
-    let done : List Interaction = inv.0.0 in
-    ((done ++ Took c.in-Act.action ∷ [],
-    one_taken c.args.worker.now.outs.items c.loop-action.worker.outs.items c.step.new.self.outs.items done c.in-Act.action inv.0.1 c.in-Act.ensures.steps,
-    λ start before did. subst (λ (xs : List Interaction). g.B.Board.did start c.act.new.self xs Going) (append_assoc before done (Took c.in-Act.action ∷ []))
-    (c.in-Ok.ensures.did start (before ++ done) (inv.0.2 start before did))),
-    (let a = inv.1 in let b = c.act.ensures.counts in omega arith),
-    λ config run w. c.step.ensures.stands config run (inv.2 config run w))
+    let done : List Interaction = inv.0.0 in (
+      (
+        done ++ Took c.in-Act.action ∷ [],
+        one_taken c.args.worker.now.outs.items c.loop-action.worker.outs.items c.step.new.self.outs.items done c.in-Act.action inv.0.1 c.in-Act.ensures.steps,
+        λ start before did. subst (λ (xs : List Interaction). g.B.Board.did start c.act.new.self xs Going) (append_assoc before done (Took c.in-Act.action ∷ []))
+            (c.in-Ok.ensures.did start (before ++ done) (inv.0.2 start before did)),
+      ),
+      (let a = inv.1 in let b = c.act.ensures.counts in omega arith),
+      λ config run w. c.step.ensures.stands config run (inv.2 config run w),
+    )
 
 pub returns-in-Err-clause-acts : goal.returns-in-Err-clause-acts
 returns-in-Err-clause-acts g c = λ start before did.

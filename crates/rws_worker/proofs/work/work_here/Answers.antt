@@ -2,12 +2,16 @@ use Rattle.std.proofs.Common.{[], refl, arith}
 use Rattle.rws_worker.proofs.work.work_here.Goals as goal
 
 pub events-init : goal.events-init
-events-init g c = (record {
-  run = [];
-  stands = c.new-worker.ensures.stands c.args.config.now;
-  fetched = c.new-worker.ensures.nothing;
-  counted = refl;
-  few = omega arith;
-  told = refl;
-  done_so_far = g.met.B.Board.did_nothing c.args.board.now;
-}, omega arith, refl)
+events-init g c = (
+  record {
+    run = [];
+    stands = c.new-worker.ensures.stands c.args.config.now;
+    fetched = c.new-worker.ensures.nothing;
+    counted = refl;
+    few = omega arith;
+    told = refl;
+    done_so_far = g.met.B.Board.did_nothing c.args.board.now;
+  },
+  omega arith,
+  refl,
+)

@@ -1,7 +1,5 @@
-use Rattle.std.proofs.Common.{◌≡◌, Option, Some, None, ap, ◌∙◌, sym}
-use Rattle.rws_session.specs.declared.link.Awaited.{Awaited}
+use Rattle.std.proofs.Common.{ap, ◌∙◌, sym}
 use Rattle.rws_session.specs.declared.link.Link.{Link}
-use Rattle.rws_session.specs.State.{link_of}
 use Rattle.rws_session.proofs.LinkLemmas.{owed_reply}
 use Rattle.rws_session.proofs.link.Link.read.Goals as goal
 

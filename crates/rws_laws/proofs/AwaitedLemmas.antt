@@ -1,0 +1,202 @@
+-- The reply to a command that was sent is awaited, until its end is passed on or the session is closed.
+use Rattle.std.proofs.Common.{◌≡◌, ℕ, Bool, true, false, List, [], ◌∷◌, ◌++◌, drop, refl, sym, ap, subst, ◌∙◌, inl, inr, Option, Some, None}
+use Rattle.std.specs.Prelude.{◌⊎◌, ◌==◌, if◌then◌else◌}
+use Rattle.std.proofs.lemmas.Bool.{eq-eqb}
+use Rattle.rws_wire.specs.declared.close_reason.CloseReason.{CloseReason}
+use Rattle.rws_wire.specs.declared.drop_cause.DropCause.{DropCause}
+use Rattle.rws_wire.specs.declared.drop_cause.DropCause.TheVariants.{BadWire, BadReply, Unasked, End}
+use Rattle.rws_reply.specs.declared.kind.Outcome.{Outcome}
+use Rattle.rws_reply.specs.declared.kind.Progress.{Progress}
+use Rattle.rws_reply.specs.declared.kind.Progress.TheVariants.{More, Whole as Ends}
+use Rattle.rws_reply.specs.Replies.{Payload}
+use Rattle.rws_config.specs.declared.config.Config.{Config}
+use Rattle.rws_record.specs.declared.command.Command.{Command}
+use Rattle.rws_record.specs.declared.proxy_error.ProxyError.{ProxyError}
+use Rattle.rws_record.specs.Item.{Item, Part, Tell, Put}
+use Rattle.rws_record.specs.Item.Item.{ClientBytes, LinkBytes, ClientGone, LinkLost, Replies, Garbles, Strays, TakesFault, Puts}
+use Rattle.rws_record.specs.Item.Purpose.{Asks}
+use Rattle.rws_record.specs.Item.Put.{Tells, Sends, Drops, Closes}
+use Rattle.rws_record.specs.Item.Tell.{Passes, Owns, Refuses}
+use Rattle.rws_record.specs.Values.{kept_on, Exchange, exchange, asked, with_part, goes_on_by, pending, sent_on, reply_number, told, is_over}
+use Rattle.rws_record.specs.Rules.{next, owed, after_loss, after_part, after_answer, part_of}
+use Rattle.rws_record.specs.Record.{IsRecord, IsInput}
+use Rattle.rws_record.specs.Record.IsRecord.{begins, steps, hears}
+use Rattle.rws_record.proofs.StepLemmas.{Due, Step, of_next, rests_owing_nothing}
+use Rattle.rws_record.proofs.StepLemmas.Due.{replies, garbles, strays, takes, takes_fault}
+use Rattle.rws_record.proofs.StepLemmas.Step.{pays, sends, reads}
+use Rattle.rws_laws.specs.Causes.{IsCaused}
+use Rattle.rws_laws.proofs.Sound.{Caused, Sound, kept_there, same_some}
+use Rattle.rws_laws.proofs.Sound.Caused.{drops, closes, tells}
+use Rattle.rws_laws.proofs.LinksLemmas.{loss_closes}
+use Rattle.rws_laws.proofs.SoundLemmas.{legal_sound, clean}
+
+-- what is owed ends the reply, or the session
+data Settles : List Put → Type 0 where
+  ends_it : {number link : ℕ} {command : Command} {payload : Payload} {outcome : Outcome} {others : List Put}
+      → Settles (Tells number (Passes link command payload (Some outcome)) ∷ others)
+  gives_up : {link : ℕ} {cause : DropCause} {others : List Put} → Settles (Drops link cause ∷ others)
+  closes_it : {reason : CloseReason} {others : List Put} → Settles (Closes reason ∷ others)
+
+-- the reply to what was sent on a link
+data Awaits (link : ℕ) (past : List Item) : Type 0 where
+  awaits : {e : Exchange} → exchange link past ≡ Some e → Awaits link past
+  settles : Settles (owed past) → Awaits link past
+  over : is_over past ≡ true → Awaits link past
+
+abbrev Awaiting : List Item → Type 0
+Awaiting past = (link : ℕ) → sent_on past ≡ Some link → Awaits link past
+
+goes_part : (number link : ℕ) (command : Command) (payload : Payload) (others owing : List Put)
+    → owing ≡ Tells number (Passes link command payload None) ∷ others → Settles owing → ⊥
+goes_part number link command payload others owing o ends_it = cc
+goes_part number link command payload others owing o gives_up = cc
+goes_part number link command payload others owing o closes_it = cc
+
+goes_own : (number status : ℕ) (others owing : List Put) → owing ≡ Tells number (Owns status) ∷ others → Settles owing → ⊥
+goes_own number status others owing o ends_it = cc
+goes_own number status others owing o gives_up = cc
+goes_own number status others owing o closes_it = cc
+
+goes_refusal : (number : ℕ) (error : ProxyError) (others owing : List Put) → owing ≡ Tells number (Refuses error) ∷ others
+    → Settles owing → ⊥
+goes_refusal number error others owing o ends_it = cc
+goes_refusal number error others owing o gives_up = cc
+goes_refusal number error others owing o closes_it = cc
+
+owes_some : (owing : List Put) → owing ≡ [] → Settles owing → ⊥
+owes_some owing o ends_it = cc
+owes_some owing o gives_up = cc
+owes_some owing o closes_it = cc
+
+-- What is given out
+
+module _ (config : Config) (past : List Item) (sound : Sound config past) (awaiting : Awaiting past) where
+  tell_awaits : (number : ℕ) (tell : Tell) (others : List Put) → owed past ≡ Tells number tell ∷ others
+      → Awaiting (Puts (Tells number tell) ∷ past)
+  tell_awaits number (Passes from command payload (Some outcome)) others o = λ link s. absurd cc
+  tell_awaits number (Passes from command payload None) others o = λ link s. elim (awaiting link s) [
+    | awaits a ↦ awaits a
+    | settles end ↦ absurd (goes_part number from command payload others (owed past) o end)
+    | over is ↦ over is
+  ]
+  tell_awaits number (Owns status) others o = λ link s. elim (awaiting link s) [
+    | awaits a ↦ awaits a
+    | settles end ↦ absurd (goes_own number status others (owed past) o end)
+    | over is ↦ over is
+  ]
+  tell_awaits number (Refuses error) others o = λ link s. elim (awaiting link s) [
+    | awaits a ↦ awaits a
+    | settles end ↦ absurd (goes_refusal number error others (owed past) o end)
+    | over is ↦ over is
+  ]
+
+  -- to give up a link for a fault closes the session
+  loss_settles : (lost : ℕ) → kept_on past ≡ Some lost → Settles (after_loss lost past ++ drop 1 (owed past))
+  loss_settles lost k = let closes = loss_closes past lost k in rw closes.1 closes_it
+
+  drop_settles : (lost : ℕ) (cause : DropCause) → IsCaused config (Drops lost cause) past
+      → Settles (owed (Puts (Drops lost cause) ∷ past)) ⊎ (is_over past ≡ true)
+  drop_settles lost BadWire caused = inl (loss_settles lost (kept_there sound.one_link lost caused.2))
+  drop_settles lost BadReply caused = inl (loss_settles lost (kept_there sound.one_link lost caused.5))
+  drop_settles lost Unasked caused = inl (loss_settles lost (kept_there sound.one_link lost caused.1))
+  drop_settles lost End caused = inr caused.0
+  drop_settles lost _ caused = absurd caused
+
+  drop_awaits : (lost : ℕ) (cause : DropCause) → IsCaused config (Drops lost cause) past → Awaiting (Puts (Drops lost cause) ∷ past)
+  drop_awaits lost cause caused = λ link s. elim (drop_settles lost cause caused) [
+    | inl end ↦ settles end
+    | inr is ↦ over is
+  ]
+
+  put_awaits : (put : Put) (others : List Put) → owed past ≡ put ∷ others → Caused config (put ∷ others) past
+      → Awaiting (Puts put ∷ past)
+  put_awaits put others o (tells {number = number} {tell = tell} cause rest) = tell_awaits number tell others o
+  put_awaits put others o (drops {link = lost} {cause = why} cause) = drop_awaits lost why cause
+  put_awaits put others o (closes {reason = reason} cause) = λ link s. over refl
+
+  -- A payload that came
+
+  module _ (o : owed past ≡ []) (n : is_over past ≡ false) where
+    -- while nothing is owed
+    awaited : (link : ℕ) → sent_on past ≡ Some link → (e : Exchange) × (exchange link past ≡ Some e)
+    awaited link s = elim (awaiting link s) [
+      | awaits {e = e} a ↦ (e, a)
+      | settles end ↦ absurd (owes_some (owed past) o end)
+      | over is ↦ absurd cc
+    ]
+
+    module _ (from : ℕ) (e : Exchange) (part : Part) (a : exchange from past ≡ Some e) where
+      abbrev answer : Command → Option Progress → List Put
+      answer command far = after_answer from command part far (reply_number past)
+
+      owed_now : (command : Command) → e ≡ record { purpose = Asks command; next = e.next; sofar = told past }
+          → owed (Replies from part ∷ past) ≡ answer command part.progress
+      owed_now command is =
+          ap (λ (x : Option Exchange). after_part from part x (reply_number past)) a
+          ∙ ap (λ (x : Exchange). after_part from part (Some x) (reply_number past)) is
+
+      goes_by : (link : ℕ) (same : Bool) → (from == link) ≡ same → part.progress ≡ Some More → sent_on past ≡ Some link
+          → (now : Exchange) × ((if same then goes_on_by part.progress part (exchange link past) else exchange link past) ≡ Some now)
+      goes_by link true t more s = let its = awaited link s in (with_part part its.0, rw (more, its.1) refl)
+      goes_by link false t more s = awaited link s
+
+      reply_awaits : (command : Command) (far : Option Progress) → part.progress ≡ far
+          → owed (Replies from part ∷ past) ≡ answer command far → Awaiting (Replies from part ∷ past)
+      reply_awaits command None is now = λ link s. settles (rw now gives_up)
+      reply_awaits command (Some (Ends outcome)) is now = λ link s. settles (rw now ends_it)
+      reply_awaits command (Some More) is now = λ link s. awaits (goes_by link (from == link) refl is s).1
+
+    still : (item : Item) → sent_on (item ∷ past) ≡ sent_on past
+        → ((link : ℕ) → exchange link (item ∷ past) ≡ exchange link past) → Awaiting (item ∷ past)
+    still item same x = λ link s. let its = awaited link (sym same ∙ s) in awaits (x link ∙ its.1)
+
+    due_awaits : {item : Item} → Due config past item → Awaiting (item ∷ past)
+    due_awaits (replies {link = from} {e = e} {payload = payload} {rest = rest} {number = number} has a f) =
+        let waits = sound.waits from e a in
+        let part : Part = part_of e payload number rest in
+        reply_awaits from e part a waits.command part.progress refl
+        (owed_now from e part a waits.command (clean config past sound o e waits.command waits.is))
+    due_awaits (garbles {link = from} {fault = fault} has a f) = still (Garbles from fault) refl (λ link. refl)
+    due_awaits (strays {link = from} has a u) = still (Strays from) refl (λ link. refl)
+    due_awaits (takes p f) = λ link s. absurd cc
+    due_awaits (takes_fault {fault = fault} p f) = still (TakesFault fault) refl (λ link. refl)
+
+    input_awaits : (item : Item) → IsInput item past → Awaiting (item ∷ past)
+    input_awaits (ClientBytes bytes) input = still (ClientBytes bytes) refl (λ link. refl)
+    input_awaits (LinkBytes from bytes) input = still (LinkBytes from bytes) refl (λ link. refl)
+    input_awaits ClientGone input = λ link s. over refl
+    input_awaits (LinkLost gone) input = still (LinkLost gone) refl (λ link. refl)
+    input_awaits _ input = absurd input
+
+send_awaits : (past : List Item) (to : ℕ) (command : Command) → Awaiting (Puts (Sends to (Asks command)) ∷ past)
+send_awaits past to command = λ link s.
+    let same : to ≡ link = same_some to link s in
+    let itself : (to == link) ≡ true = eq-eqb to link same in
+    awaits {e = asked (Asks command)} (rw itself refl)
+
+step_awaits : {config : Config} {past : List Item} {item : Item} → Step config past item → Sound config past → Awaiting past
+    → Awaiting (item ∷ past)
+step_awaits {config} {past} (pays {put = put} {others = others} o) sound awaiting =
+    put_awaits config past sound awaiting put others o (subst (λ (list : List Put). Caused config list past) o sound.owes)
+step_awaits {past = past} (sends {link = to} {command = command} o n p s k c) sound awaiting = send_awaits past to command
+step_awaits {config} {past} (reads o n due) sound awaiting = due_awaits config past sound awaiting o n due
+
+legal_awaits : {config : Config} {past : List Item} → IsRecord config past → Awaiting past
+legal_awaits (begins link server) = λ other s. absurd cc
+legal_awaits {config} (steps {past = past} {item = item} legal e) =
+    step_awaits (of_next config past item e) (legal_sound legal) (legal_awaits legal)
+legal_awaits {config} (hears {past = past} {item = item} legal rests n input) =
+    input_awaits config past (legal_sound legal) (legal_awaits legal) (rests_owing_nothing config past rests) n item input
+
+-- where a session rests, the reply to the command that was sent is awaited, and all that came of it was told
+pub rests_awaiting : (config : Config) (past : List Item) → IsRecord config past → next config past ≡ None → is_over past ≡ false
+    → (command : Command) (link : ℕ) → pending past ≡ Some command → sent_on past ≡ Some link
+    → (number : ℕ) × (exchange link past ≡ Some (record { purpose = Asks command; next = number; sofar = told past }))
+rests_awaiting config past legal rests n command link p s =
+    let o = rests_owing_nothing config past rests in
+    let sound = legal_sound legal in
+    let its = awaited config past sound (legal_awaits legal) o n link s in
+    let waits = sound.waits link its.0 its.1 in
+    let same : waits.command ≡ command = same_some waits.command command (sym waits.waits ∙ p) in
+    let is = clean config past sound o its.0 waits.command waits.is in
+    (its.0.next, its.1 ∙ ap Some is ∙ ap (λ (c : Command). Some (record { purpose = Asks c; next = its.0.next; sofar = told past })) same)

@@ -1,0 +1,80 @@
+-- In a legal record all that was read and given out has its cause.
+use Rattle.std.proofs.Common.{◌≡◌, ℕ, false, List, [], ◌∷◌, refl, sym, ap, subst, ◌∙◌, inl, inr, Some, None}
+use Rattle.std.specs.Prelude.{◌⊎◌}
+use Rattle.rws_config.specs.declared.config.Config.{Config}
+use Rattle.rws_record.specs.declared.command.Command.{Command}
+use Rattle.rws_record.specs.Item.{Item, Put}
+use Rattle.rws_record.specs.Item.Item.{ClientBytes, LinkBytes, ClientGone, LinkLost}
+use Rattle.rws_record.specs.Item.Put.{Sends}
+use Rattle.rws_record.specs.Item.Purpose.{Asks}
+use Rattle.rws_record.specs.Values.{links, kept_on, pending, sent_on, is_over}
+use Rattle.rws_record.specs.Rules.{owed, is_some_byte}
+use Rattle.rws_record.specs.Record.{IsRecord, IsInput}
+use Rattle.rws_record.specs.Record.IsRecord.{begins, steps, hears}
+use Rattle.rws_record.specs.Run.{record_of}
+use Rattle.rws_record.proofs.StepLemmas.{Due, Step, of_next}
+use Rattle.rws_record.proofs.StepLemmas.Due.{replies, garbles, strays, takes, takes_fault}
+use Rattle.rws_record.proofs.StepLemmas.Step.{pays, sends, reads}
+use Rattle.rws_record.proofs.RecordLemmas.{records}
+use Rattle.rws_laws.specs.Causes.{IsCaused, IsBehind, AreCaused}
+use Rattle.rws_laws.specs.Causes.Took.{took}
+use Rattle.rws_laws.specs.Causes.TookFault.{took_fault}
+use Rattle.rws_laws.specs.Laws.{Causes, CausesInRuns}
+use Rattle.rws_laws.proofs.Sound.{Caused, first_caused, Sound, has_itself, goes_with_one, same_some}
+use Rattle.rws_laws.proofs.SoundLemmas.{legal_sound}
+
+some_byte : (rest : List ℕ) → IsBehind (is_some_byte rest) rest
+some_byte [] = refl
+some_byte (byte ∷ rest) = λ none. absurd cc
+
+send_caused : {config : Config} {past : List Item} {link : ℕ} {command : Command} → owed past ≡ [] → is_over past ≡ false
+    → pending past ≡ Some command → sent_on past ≡ None → kept_on past ≡ Some link → Sound config past
+    → IsCaused config (Sends link (Asks command)) past
+send_caused {past = past} {link = link} {command = command} o n p s k sound =
+    let one = goes_with_one o n sound.one_link in
+    let same : one.0 ≡ link = same_some one.0 link (sym one.2 ∙ k) in (
+      record { waits = p; asked = (sound.asks command p).asked },
+      s,
+      k,
+      has_itself link (links past) (one.1 ∙ ap (λ (l : ℕ). l ∷ []) same),
+    )
+
+due_read : {config : Config} {past : List Item} {item : Item} → Due config past item → is_over past ≡ false
+    → AreCaused config past → AreCaused config (item ∷ past)
+due_read (replies {e = e} {rest = rest} has a f) n below = (n, (e, rest, has, a, f, refl, some_byte rest), below)
+due_read (garbles {e = e} has a f) n below = (n, (e, has, a, f), below)
+due_read (strays {byte = byte} {rest = rest} has a u) n below = (n, ((byte, rest, a, u), has), below)
+due_read (takes {payload = payload} p f) n below = (n, (payload, took p f), below)
+due_read (takes_fault p f) n below = (n, took_fault p f, below)
+
+input_read : (config : Config) (past : List Item) (item : Item) → IsInput item past → is_over past ≡ false
+    → AreCaused config past → AreCaused config (item ∷ past)
+input_read config past (ClientBytes bytes) input n below = (n, tt, below)
+input_read config past (LinkBytes link bytes) input n below = (n, input, below)
+input_read config past ClientGone input n below = (n, tt, below)
+input_read config past (LinkLost link) input n below = (n, input, below)
+input_read config past _ input n below = absurd input
+
+step_caused : {config : Config} {past : List Item} {item : Item} → Step config past item → Sound config past
+    → AreCaused config past → AreCaused config (item ∷ past)
+step_caused {config} {past} (pays o) sound below =
+    (first_caused (subst (λ (list : List Put). Caused config list past) o sound.owes), below)
+step_caused (sends o n p s k c) sound below = (send_caused o n p s k sound, below)
+step_caused (reads o n due) sound below = due_read due n below
+
+all_caused : {config : Config} {past : List Item} → IsRecord config past → AreCaused config past
+all_caused (begins link server) = (refl, refl, tt)
+all_caused {config} (steps {past = past} {item = item} legal e) =
+    step_caused (of_next config past item e) (legal_sound legal) (all_caused legal)
+all_caused {config} (hears {past = past} {item = item} legal rests n input) =
+    input_read config past item input n (all_caused legal)
+
+pub causes : Causes
+causes config past legal = all_caused legal
+
+pub causes_in_runs : CausesInRuns
+causes_in_runs config run legal session = of_record (record_of session run) (records config run legal session)
+  where
+    of_record : (past : List Item) → (past ≡ []) ⊎ IsRecord config past → AreCaused config past
+    of_record past (inl none) = rw none tt
+    of_record past (inr legal) = all_caused legal

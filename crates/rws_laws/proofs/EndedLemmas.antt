@@ -1,0 +1,85 @@
+-- A session that is over owes its farewells and nothing else, so it has no link left where it rests.
+use Rattle.std.proofs.Common.{◌≡◌, ℕ, true, false, List, [], ◌∷◌, map, refl, sym, ap, ◌∙◌, None}
+use Rattle.std.specs.Prelude.{◌==◌}
+use Rattle.std.proofs.lemmas.Bool.{eq-eqb}
+use Rattle.rws_wire.specs.declared.drop_cause.DropCause.TheVariants.{End}
+use Rattle.rws_config.specs.declared.config.Config.{Config}
+use Rattle.rws_record.specs.Item.{Item, Put}
+use Rattle.rws_record.specs.Item.Item.{ClientBytes, LinkBytes, ClientGone, LinkLost, Puts}
+use Rattle.rws_record.specs.Item.Put.{Tells, Sends, Drops, Closes}
+use Rattle.rws_record.specs.Values.{links, is_over}
+use Rattle.rws_record.specs.Rules.{next, owed, farewells}
+use Rattle.rws_record.specs.Record.{IsRecord, IsInput}
+use Rattle.rws_record.specs.Record.IsRecord.{begins, steps, hears}
+use Rattle.rws_record.proofs.StepLemmas.{Due, Step, of_next, rests_owing_nothing}
+use Rattle.rws_record.proofs.StepLemmas.Due.{replies, garbles, strays, takes, takes_fault}
+use Rattle.rws_record.proofs.StepLemmas.Step.{pays, sends, reads}
+use Rattle.rws_laws.proofs.Sound.{Links, Sound}
+use Rattle.rws_laws.proofs.Sound.Links.{has_one, is_over_now, closes_now}
+use Rattle.rws_laws.proofs.SoundLemmas.{legal_sound}
+
+abbrev Leaves : List Item → Type 0
+Leaves past = is_over past ≡ true → owed past ≡ farewells past
+
+abbrev bye : List ℕ → List Put
+bye list = map (λ link. Drops link End) list
+
+-- the last link of a session that is over
+last_goes : (past : List Item) (link : ℕ) (put : Put) (others : List Put) → owed past ≡ put ∷ others
+    → owed past ≡ bye (links past) → links past ≡ link ∷ [] → owed (Puts put ∷ past) ≡ bye (links (Puts put ∷ past))
+last_goes past link put others o leaves l =
+    let both : put ∷ others ≡ Drops link End ∷ [] = sym o ∙ leaves ∙ ap bye l in
+    let is : put ≡ Drops link End = cc in
+    let none : others ≡ [] = cc in
+    let itself : (link == link) ≡ true = eq-eqb link link refl in
+    rw is (rw (o, none, l, itself) refl)
+
+put_leaves : (past : List Item) (put : Put) (others : List Put) → owed past ≡ put ∷ others → Links past
+    → owed past ≡ bye (links past) → owed (Puts put ∷ past) ≡ bye (links (Puts put ∷ past))
+put_leaves past put others o (has_one link l k) leaves = last_goes past link put others o leaves l
+put_leaves past put others o (is_over_now l over) leaves =
+    let none : put ∷ others ≡ [] = sym o ∙ leaves ∙ ap bye l in absurd cc
+put_leaves past put others o (closes_now l reason owes) leaves =
+    let none : put ∷ others ≡ [] = sym o ∙ leaves ∙ ap bye l in absurd cc
+
+leaves_put : (past : List Item) (put : Put) (others : List Put) → owed past ≡ put ∷ others → Links past → Leaves past
+    → Leaves (Puts put ∷ past)
+leaves_put past (Closes reason) others o one_link leaves = λ over. refl
+leaves_put past (Tells number tell) others o one_link leaves = λ over. put_leaves past (Tells number tell) others o one_link (leaves over)
+leaves_put past (Sends link purpose) others o one_link leaves = λ over. put_leaves past (Sends link purpose) others o one_link (leaves over)
+leaves_put past (Drops link cause) others o one_link leaves = λ over. put_leaves past (Drops link cause) others o one_link (leaves over)
+
+goes_on_here : {config : Config} {past : List Item} {item : Item} → Due config past item → is_over past ≡ false
+    → is_over (item ∷ past) ≡ false
+goes_on_here (replies has a f) n = n
+goes_on_here (garbles has a f) n = n
+goes_on_here (strays has a u) n = n
+goes_on_here (takes p f) n = n
+goes_on_here (takes_fault p f) n = n
+
+leaves_input : (past : List Item) (item : Item) → IsInput item past → is_over past ≡ false → Leaves (item ∷ past)
+leaves_input past (ClientBytes bytes) input n = λ over. absurd cc
+leaves_input past (LinkBytes from bytes) input n = λ over. absurd cc
+leaves_input past ClientGone input n = λ over. refl
+leaves_input past (LinkLost gone) input n = λ over. absurd cc
+leaves_input past _ input n = absurd input
+
+leaves_step : {config : Config} {past : List Item} {item : Item} → Step config past item → Sound config past → Leaves past
+    → Leaves (item ∷ past)
+leaves_step {past = past} (pays {put = put} {others = others} o) sound leaves = leaves_put past put others o sound.one_link leaves
+leaves_step (sends o n p s k c) sound leaves = λ over. absurd cc
+leaves_step (reads o n due) sound leaves = λ over. let not_over = goes_on_here due n in absurd cc
+
+leaves : {config : Config} {past : List Item} → IsRecord config past → Leaves past
+leaves (begins link server) = λ over. absurd cc
+leaves {config} (steps {past = past} {item = item} legal e) = leaves_step (of_next config past item e) (legal_sound legal) (leaves legal)
+leaves (hears {past = past} {item = item} legal rests n input) = leaves_input past item input n
+
+no_links : (list : List ℕ) → bye list ≡ [] → list ≡ []
+no_links [] e = refl
+no_links (link ∷ others) e = absurd cc
+
+-- once it rests it has no link
+pub ended : {config : Config} {past : List Item} → IsRecord config past → next config past ≡ None → is_over past ≡ true
+    → links past ≡ []
+ended {config} {past} legal e over = no_links (links past) (sym (leaves legal over) ∙ rests_owing_nothing config past e)

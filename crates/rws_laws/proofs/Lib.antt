@@ -1,0 +1,12 @@
+-- what a legal record keeps true
+pub mod Sound
+pub mod LinksLemmas
+pub mod ReplyLemmas
+pub mod OwedLemmas
+pub mod SoundLemmas
+-- the law on causes
+pub mod CausesLemmas
+-- the law on what a session that rests has answered
+pub mod EndedLemmas
+pub mod AwaitedLemmas
+pub mod AnswersLemmas

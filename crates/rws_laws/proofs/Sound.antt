@@ -1,0 +1,134 @@
+-- What a legal record keeps true at each of its places, so that all that is given out has its cause.
+use Rattle.std.proofs.Common.{◌≡◌, ℕ, zero, suc, ◌<◌, true, false, List, [], ◌∷◌, ◌++◌, refl, ap, ◌∙◌, arith, Option, Some, None}
+use Rattle.std.specs.Prelude.{◌≢◌, ◌==◌, Contains, slice_index_or}
+use Rattle.std.proofs.lemmas.Bool.{eqb-true, eq-eqb}
+use Rattle.rws_wire.specs.declared.close_reason.CloseReason.{CloseReason}
+use Rattle.rws_wire.specs.declared.drop_cause.DropCause.{DropCause}
+use Rattle.rws_reply.specs.Replies.{Payload}
+use Rattle.rws_config.specs.declared.config.Config.{Config}
+use Rattle.rws_record.specs.declared.command.Command.{Command}
+use Rattle.rws_record.specs.Item.{Item, Tell, Put}
+use Rattle.rws_record.specs.Item.Item.{Puts}
+use Rattle.rws_record.specs.Item.Tell.{Passes}
+use Rattle.rws_record.specs.Item.Put.{Tells, Drops, Closes}
+use Rattle.rws_record.specs.Item.Purpose.{Asks}
+use Rattle.rws_record.specs.Values.{links, kept_on, Exchange, exchange, pending, sent_on, reply_number, told, told_from, is_over}
+use Rattle.rws_record.specs.Rules.{is_link, owed}
+use Rattle.rws_laws.specs.Causes.{Asked, IsCaused, number_behind_all}
+
+-- What is owed has its cause; what stands behind the first has it once the first was given out. A link that is given
+-- up and a close come last.
+pub data Caused (config : Config) : List Put → List Item → Type 0 where
+  nothing : {past : List Item} → Caused config [] past
+  drops : {link : ℕ} {cause : DropCause} {past : List Item} → IsCaused config (Drops link cause) past
+      → Caused config (Drops link cause ∷ []) past
+  closes : {reason : CloseReason} {past : List Item} → IsCaused config (Closes reason) past
+      → Caused config (Closes reason ∷ []) past
+  tells : {number : ℕ} {tell : Tell} {others : List Put} {past : List Item} → IsCaused config (Tells number tell) past
+      → Caused config others (Puts (Tells number tell) ∷ past) → Caused config (Tells number tell ∷ others) past
+
+pub first_caused : {config : Config} {put : Put} {others : List Put} {past : List Item} → Caused config (put ∷ others) past
+    → IsCaused config put past
+first_caused (drops cause) = cause
+first_caused (closes cause) = cause
+first_caused (tells cause rest) = cause
+
+-- The links are the one that the session is kept on, or none, and then it is over or about to be closed.
+pub data Links (past : List Item) : Type 0 where
+  has_one : (link : ℕ) → links past ≡ link ∷ [] → kept_on past ≡ Some link → Links past
+  is_over_now : links past ≡ [] → is_over past ≡ true → Links past
+  closes_now : links past ≡ [] → (reason : CloseReason) → owed past ≡ Closes reason ∷ [] → Links past
+
+-- a command that was sent is the client's, and went on the link that the session is kept on
+abbrev pub SentBy : Option Command → (sent kept : Option ℕ) → Type 0
+SentBy pending sent kept = (link : ℕ) → sent ≡ Some link → (command : Command) × (pending ≡ Some command) × (kept ≡ Some link)
+
+abbrev pub Sent : List Item → Type 0
+Sent past = SentBy (pending past) (sent_on past) (kept_on past)
+
+-- The client was passed nothing of the pending command's reply, or a part of it from the link on which the command was
+-- sent, or its end.
+pub data ToldBy : List Payload → (from sent : Option ℕ) → Option Command → Type 0 where
+  none_yet : {sent : Option ℕ} {pending : Option Command} → ToldBy [] None sent pending
+  a_part : {told : List Payload} {link : ℕ} {pending : Option Command} → told ≢ [] → ToldBy told (Some link) (Some link) pending
+  all : {told : List Payload} {sent : Option ℕ} → ToldBy told None sent None
+
+abbrev pub Telling : List Item → Type 0
+Telling past = ToldBy (told past) (told_from past) (sent_on past) (pending past)
+
+-- the pending command came of the client, and the numbers of its reply count on from it
+pub record IsAsked (config : Config) (command : Command) (past : List Item) : Type 0 where
+  pub asked : Asked config command past
+  pub counts : reply_number past ≡ number_behind_all (told past) command.number
+
+abbrev pub Asking : Config → List Item → Type 0
+Asking config past = (command : Command) → pending past ≡ Some command → IsAsked config command past
+
+-- the payloads that are passed among what is owed
+abbrev pub passed : List Put → List Payload
+passed [] = []
+passed (Tells number (Passes link command payload outcome) ∷ others) = payload ∷ passed others
+passed (_ ∷ others) = passed others
+
+-- a reply that is awaited is the one to the pending command, and all that came of it was passed on, or is about to be
+pub record AwaitedBy (link : ℕ) (e : Exchange) (pending : Option Command) (sent : Option ℕ) (told : List Payload) (owed : List Put) : Type 0 where
+  pub command : Command
+  pub is : e ≡ record { purpose = Asks command; next = e.next; sofar = told ++ passed owed }
+  pub waits : pending ≡ Some command
+  pub sent_there : sent ≡ Some link
+
+abbrev pub WaitsBy : (ℕ → Option Exchange) → Option Command → Option ℕ → List Payload → List Put → Type 0
+WaitsBy exchange pending sent told owed = (link : ℕ) (e : Exchange) → exchange link ≡ Some e → AwaitedBy link e pending sent told owed
+
+abbrev pub Waits : List Item → Type 0
+Waits past = WaitsBy (λ link. exchange link past) (pending past) (sent_on past) (told past) (owed past)
+
+pub record Sound (config : Config) (past : List Item) : Type 0 where
+  pub one_link : Links past
+  pub sent : Sent past
+  pub telling : Telling past
+  pub asks : Asking config past
+  pub waits : Waits past
+  pub owes : Caused config (owed past) past
+
+-- Links
+
+pub only_one : (one link k : ℕ) → k < 1 → slice_index_or (one ∷ []) k link ≡ link → one ≡ link
+only_one one link zero below e = e
+only_one one link (suc k) below e = absurd (omega arith)
+
+pub its_link : (one link : ℕ) (list : List ℕ) → list ≡ one ∷ [] → Contains list link → one ≡ link
+its_link one link list e has =
+    let has : Contains (one ∷ []) link = rw e at has in only_one one link has.0 has.1 has.2
+
+pub has_itself : (link : ℕ) (list : List ℕ) → list ≡ link ∷ [] → Contains list link
+has_itself link list e = rw e (0, omega arith, refl)
+
+pub no_link : (link : ℕ) (list : List ℕ) → list ≡ [] → Contains list link → ⊥
+no_link link list e has = let has : Contains [] link = rw e at has in omega (arith, has.1)
+
+pub kept_there : {past : List Item} → Links past → (link : ℕ) → Contains (links past) link → kept_on past ≡ Some link
+kept_there (has_one one e k) link has = k ∙ ap Some (its_link one link _ e has)
+kept_there (is_over_now e over) link has = absurd (no_link link _ e has)
+kept_there (closes_now e reason owes) link has = absurd (no_link link _ e has)
+
+-- while a session goes on with nothing owed, it has its link
+pub goes_with_one : {past : List Item} → owed past ≡ [] → is_over past ≡ false → Links past
+    → (link : ℕ) × (links past ≡ link ∷ []) × (kept_on past ≡ Some link)
+goes_with_one o n (has_one link e k) = (link, e, k)
+goes_with_one o n (is_over_now e over) = absurd cc
+goes_with_one o n (closes_now e reason owes) = absurd cc
+
+-- Whether it is a link
+
+pub same_some : {A : Type 0} (one other : A) → Some one ≡ Some other → one ≡ other
+same_some one other e = cc
+
+pub is_that : (link : ℕ) (found : Option ℕ) → is_link link found ≡ true → found ≡ Some link
+is_that link None e = absurd cc
+is_that link (Some other) e = ap Some (eqb-true other link e)
+
+pub is_not : (link : ℕ) (found : Option ℕ) → is_link link found ≡ false → found ≢ Some link
+is_not link None e same = absurd cc
+is_not link (Some other) e same =
+    let yes : (other == link) ≡ true = eq-eqb other link (same_some other link same) in absurd cc

@@ -1,0 +1,32 @@
+-- What is left to answer where a session rests: the other direction of `Causes`.
+use Rattle.std.specs.Prelude.{◌≡◌, ℕ, true, false, List, [], ◌∷◌, Some, None, Contains}
+use Rattle.rws_wire.specs.Payloads.{first_payload}
+use Rattle.rws_wire.specs.Payloads.Beginning.{Nothing}
+use Rattle.rws_config.specs.declared.config.Config.{Config}
+use Rattle.rws_config.specs.declared.limits.TheConstants.{SERVER_PAYLOAD}
+use Rattle.rws_record.specs.declared.command.Command.{Command}
+use Rattle.rws_record.specs.Item.{Item}
+use Rattle.rws_record.specs.Item.Purpose.{Asks}
+use Rattle.rws_record.specs.Values.{held, links, kept_on, Exchange, exchange, link_held, pending, sent_on, told, is_over}
+
+-- What stands in a session that goes on and rests. Nothing that came waits for an answer but the command that its server
+-- has, and what the client sent behind it.
+pub record HasAnswered (config : Config) (past : List Item) : Type 0 where
+  -- it has its link
+  pub link : (link : ℕ) × (links past ≡ link ∷ []) × (kept_on past ≡ Some link)
+  -- a pending command was sent there; its reply is awaited, and all that came of it was told
+  pub sent : (command : Command) → pending past ≡ Some command → (link : ℕ) × (number : ℕ)
+      × (kept_on past ≡ Some link) × (sent_on past ≡ Some link)
+      × (exchange link past ≡ Some (record { purpose = Asks command; next = number; sofar = told past }))
+  -- where no command is pending, the client's bytes begin with no whole payload and no fault
+  pub client : pending past ≡ None → first_payload config.command_bytes 0 (held config past) ≡ Nothing
+  -- of a reply that is awaited no whole payload came, and no fault
+  pub reply : (link : ℕ) (e : Exchange) → Contains (links past) link → exchange link past ≡ Some e
+      → first_payload SERVER_PAYLOAD e.next (link_held link past) ≡ Nothing
+  -- no byte came on a link that awaits nothing
+  pub asked : (link : ℕ) → Contains (links past) link → exchange link past ≡ None → link_held link past ≡ []
+
+-- A session that goes on has answered; one that is over has given up its links.
+pub record IsAnswered (config : Config) (past : List Item) : Type 0 where
+  pub going_on : is_over past ≡ false → HasAnswered config past
+  pub ended : is_over past ≡ true → links past ≡ []

@@ -1,0 +1,180 @@
+-- Why each item of a session's record stands where it stands. This is a second reading of the record: it says what must
+-- have come and what must have been given out below a place, and names no rule by which a session goes on.
+use Rattle.std.specs.Prelude.{◌≡◌, ◌≢◌, ◌⊎◌, ℕ, Bool, true, false, List, [], ◌∷◌, ◌++◌, Option, Some, None, Contains}
+use Rattle.rws_wire.specs.Packets.{number_behind}
+use Rattle.rws_wire.specs.Payloads.{first_payload}
+use Rattle.rws_wire.specs.Payloads.Beginning.{Whole, Faulty}
+use Rattle.rws_wire.specs.declared.fault.WireFault.{WireFault}
+use Rattle.rws_wire.specs.declared.fault.WireFault.TheVariants as faults
+use Rattle.rws_wire.specs.declared.close_reason.CloseReason.TheVariants.{Quit, OutOfOrder, TooLarge, ResultCut, OutcomeUnknown, SessionState}
+use Rattle.rws_wire.specs.declared.drop_cause.DropCause.TheVariants.{BadWire, BadReply, Unasked, End}
+use Rattle.rws_msgs.specs.declared.status.TheConstants.{AUTOCOMMIT}
+use Rattle.rws_reply.specs.declared.kind.Outcome.{Outcome}
+use Rattle.rws_reply.specs.Replies.{Payload, IsReply, Begins}
+use Rattle.rws_reply.specs.Tracking.{progress}
+use Rattle.rws_config.specs.declared.config.Config.{Config}
+use Rattle.rws_config.specs.declared.limits.TheConstants.{SERVER_PAYLOAD}
+use Rattle.rws_record.specs.declared.command.Command.{Command}
+use Rattle.rws_record.specs.declared.proxy_error.ProxyError.TheVariants.{UnknownCommand, NotSupported, PacketsOutOfOrder, CommandTooLarge}
+use Rattle.rws_record.specs.declared.request.Request.TheVariants as requests
+use Rattle.rws_record.specs.Item.{Item, Put}
+use Rattle.rws_record.specs.Item.Item.{Began, LinkBytes, LinkLost, Replies, Garbles, Strays, Takes, TakesFault, Puts}
+use Rattle.rws_record.specs.Item.Judged.{Serves}
+use Rattle.rws_record.specs.Item.Put.{Tells, Sends, Drops, Closes}
+use Rattle.rws_record.specs.Item.Tell.{Passes, Owns, Refuses}
+use Rattle.rws_record.specs.Item.Purpose.{Asks}
+use Rattle.rws_record.specs.Requests.{request_of}
+use Rattle.rws_record.specs.Judging.{judged}
+use Rattle.rws_record.specs.Values.{held, links, kept_on, Exchange, exchange, kind_of, link_held, pending, sent_on, told, told_from, is_over}
+
+-- What came of the client
+
+-- The record's newest item takes up this command, whose reply begins with this number: the payload that the client's bytes
+-- began with, where no command before it waited for its answer.
+pub data Took (config : Config) (payload : Payload) (number : ℕ) : List Item → Type 0 where
+  took : {past : List Item} {rest : List ℕ} → pending past ≡ None
+      → first_payload config.command_bytes 0 (held config past) ≡ Whole payload number rest
+      → Took config payload number (Takes (judged payload number) number ∷ past)
+
+-- it takes up this fault, which the client's bytes began with
+pub data TookFault (config : Config) (fault : WireFault) : List Item → Type 0 where
+  took_fault : {past : List Item} → pending past ≡ None
+      → first_payload config.command_bytes 0 (held config past) ≡ Faulty fault
+      → TookFault config fault (TakesFault fault ∷ past)
+
+-- the command was taken up from the client's bytes, and is one for a server
+pub data Asked (config : Config) (command : Command) : List Item → Type 0 where
+  here : {past : List Item} → Took config command.payload command.number past
+      → judged command.payload command.number ≡ Serves command → Asked config command past
+  before : {item : Item} {past : List Item} → Asked config command past → Asked config command (item ∷ past)
+
+-- the client's command that isn't answered yet
+pub record IsPending (config : Config) (command : Command) (past : List Item) : Type 0 where
+  pub waits : pending past ≡ Some command
+  pub asked : Asked config command past
+
+-- What came of a link
+
+-- the payload of a reply that came last, and its link
+abbrev pub replied : List Item → Option (ℕ × Payload)
+replied (Replies link part ∷ past) = Some (link, part.payload)
+replied _ = None
+
+-- the fault of a link's packets that came last
+abbrev pub garbled : List Item → Option (ℕ × WireFault)
+garbled (Garbles link fault ∷ past) = Some (link, fault)
+garbled _ = None
+
+-- the link that was lost last: its server closed it, or it was given up for a fault
+abbrev pub lost : List Item → Option ℕ
+lost (LinkLost link ∷ past) = Some link
+lost (Puts (Drops link BadWire) ∷ past) = Some link
+lost (Puts (Drops link BadReply) ∷ past) = Some link
+lost (Puts (Drops link Unasked) ∷ past) = Some link
+lost _ = None
+
+-- a byte that nobody awaited came on the link
+abbrev pub HasStrayByte : ℕ → List Item → Type 0
+HasStrayByte link past = (byte : ℕ) × (rest : List ℕ) × (exchange link past ≡ None) × (link_held link past ≡ byte ∷ rest)
+
+-- This payload came last, on the link on which the pending command was sent; all that the client was passed since it was
+-- taken up came from there.
+pub record IsOfReply (config : Config) (link : ℕ) (command : Command) (payload : Payload) (past : List Item) : Type 0 where
+  pub came : replied past ≡ Some (link, payload)
+  pub pending : IsPending config command past
+  pub sent : sent_on past ≡ Some link
+  pub one_link : (told past ≡ []) ⊎ (told_from past ≡ Some link)
+
+-- The number of the packet behind these payloads, told one after the other from a number on.
+abbrev pub number_behind_all : List Payload → ℕ → ℕ
+number_behind_all [] number = number
+number_behind_all (payload ∷ others) number = number_behind_all others (number_behind number payload)
+
+-- Causes
+
+-- Why this may be given out next. What a session never gives out has no cause.
+abbrev pub IsCaused : Config → Put → List Item → Type 0
+-- with it the client was told a whole reply with this outcome, or what a reply begins with; the numbers count on from the
+-- command's
+IsCaused config (Tells number (Passes link command payload (Some outcome))) past =
+    IsOfReply config link command payload past × IsReply command.kind (told past ++ payload ∷ []) outcome
+    × (number ≡ number_behind_all (told past) command.number) × (exchange link past ≡ None)
+IsCaused config (Tells number (Passes link command payload None)) past =
+    IsOfReply config link command payload past × Begins command.kind (told past ++ payload ∷ [])
+    × (number ≡ number_behind_all (told past) command.number)
+-- COM_PING; autocommit is on, and no transaction is open
+IsCaused config (Tells number (Owns status)) past =
+    (payload : Payload) × Took config payload number past × (request_of payload ≡ requests.Ping) × (status ≡ AUTOCOMMIT)
+IsCaused config (Tells number (Refuses UnknownCommand)) past =
+    (payload : Payload) × Took config payload number past × (request_of payload ≡ requests.Unknown)
+IsCaused config (Tells number (Refuses NotSupported)) past =
+    (payload : Payload) × Took config payload number past × (request_of payload ≡ requests.Unsupported)
+IsCaused config (Tells number (Refuses PacketsOutOfOrder)) past =
+    (want : ℕ) × (got : ℕ) × TookFault config (faults.OutOfOrder want got) past × (number ≡ 1)
+IsCaused config (Tells number (Refuses CommandTooLarge)) past =
+    (length : ℕ) × TookFault config (faults.TooLarge length) past × (number ≡ 1)
+IsCaused config (Tells number (Refuses _)) past = ⊥
+-- the client's command, on the link that the session is kept on, where it wasn't sent before
+IsCaused config (Sends link (Asks command)) past =
+    IsPending config command past × (sent_on past ≡ None) × (kept_on past ≡ Some link) × Contains (links past) link
+IsCaused config (Closes Quit) past =
+    (payload : Payload) × (number : ℕ) × Took config payload number past × (request_of payload ≡ requests.Quit)
+-- the fault was taken up, and then the client was told
+IsCaused config (Closes (OutOfOrder want got)) past =
+    (below : List Item) × (past ≡ Puts (Tells 1 (Refuses PacketsOutOfOrder)) ∷ below)
+    × TookFault config (faults.OutOfOrder want got) below
+IsCaused config (Closes (TooLarge length)) past =
+    (below : List Item) × (past ≡ Puts (Tells 1 (Refuses CommandTooLarge)) ∷ below)
+    × TookFault config (faults.TooLarge length) below
+-- the client has a part of the reply that the lost link was giving
+IsCaused config (Closes ResultCut) past =
+    (link : ℕ) × (command : Command) × (lost past ≡ Some link) × IsPending config command past
+    × (told_from past ≡ Some link) × (told past ≢ [])
+-- the command was sent on the lost link, so it may have been carried out, and the client has nothing of its reply
+IsCaused config (Closes OutcomeUnknown) past =
+    (link : ℕ) × (command : Command) × (lost past ≡ Some link) × IsPending config command past
+    × (sent_on past ≡ Some link) × (told past ≡ [])
+-- no command was on the lost link, but the connection held what the session has set
+IsCaused config (Closes SessionState) past =
+    (link : ℕ) × (lost past ≡ Some link) × (kept_on past ≡ Some link) × (sent_on past ≡ None)
+IsCaused config (Closes _) past = ⊥
+IsCaused config (Drops link BadWire) past =
+    (fault : WireFault) × (garbled past ≡ Some (link, fault)) × Contains (links past) link
+-- behind what the client was told the payload neither ends a reply to the command nor leaves one to come
+IsCaused config (Drops link BadReply) past =
+    (command : Command) × (payload : Payload) × IsOfReply config link command payload past
+    × (¬ Begins command.kind (told past ++ payload ∷ []))
+    × ((outcome : Outcome) → ¬ IsReply command.kind (told past ++ payload ∷ []) outcome) × Contains (links past) link
+IsCaused config (Drops link Unasked) past = HasStrayByte link past × Contains (links past) link
+IsCaused config (Drops link End) past = (is_over past ≡ true) × Contains (links past) link
+IsCaused config (Drops link _) past = ⊥
+
+-- whether bytes stand behind a payload
+abbrev pub IsBehind : Bool → List ℕ → Type 0
+IsBehind true rest = rest ≢ []
+IsBehind false rest = rest ≡ []
+
+-- What was read is what the bytes below it begin with, of the client or of a link that awaits a reply, and what came came
+-- from a link that the session has.
+abbrev pub IsRead : Config → Item → List Item → Type 0
+IsRead config (Began link server) past = past ≡ []
+IsRead config (LinkBytes link bytes) past = Contains (links past) link
+IsRead config (LinkLost link) past = Contains (links past) link
+IsRead config (Replies link part) past =
+    (e : Exchange) × (rest : List ℕ) × Contains (links past) link × (exchange link past ≡ Some e)
+    × (first_payload SERVER_PAYLOAD e.next (link_held link past) ≡ Whole part.payload part.next rest)
+    × (part.progress ≡ progress (kind_of e.purpose) e.sofar part.payload) × IsBehind part.behind rest
+IsRead config (Garbles link fault) past =
+    (e : Exchange) × Contains (links past) link × (exchange link past ≡ Some e)
+    × (first_payload SERVER_PAYLOAD e.next (link_held link past) ≡ Faulty fault)
+IsRead config (Strays link) past = HasStrayByte link past × Contains (links past) link
+IsRead config (Takes it number) past = (payload : Payload) × Took config payload number (Takes it number ∷ past)
+IsRead config (TakesFault fault) past = TookFault config fault (TakesFault fault ∷ past)
+IsRead config _ past = Unit {0}
+
+-- At each place of the record: what was given out has its cause, and all else came, or was read, while the session wasn't
+-- over.
+abbrev pub AreCaused : Config → List Item → Type 0
+AreCaused config [] = Unit {0}
+AreCaused config (Puts put ∷ past) = IsCaused config put past × AreCaused config past
+AreCaused config (item ∷ past) = (is_over past ≡ false) × IsRead config item past × AreCaused config past

@@ -1,0 +1,15 @@
+//! Laws about a session's record. Each function does nothing; its contract is the law, which is proved with it.
+ghost use Rattle.rws_laws.specs.Laws.{Answered, AnsweredInRuns, Causes, CausesInRuns};
+
+/// All that a session read, told, sent, dropped and closed has its cause in what stands below it: in the bytes of the client
+/// and of its link.
+pub fn causes()
+    ensures records { Causes }
+    ensures runs { CausesInRuns }
+{}
+
+/// A session that rests has answered all that it can answer, and has no link left if it is over.
+pub fn has_answered()
+    ensures records { Answered }
+    ensures runs { AnsweredInRuns }
+{}

@@ -1,0 +1,352 @@
+-- Runs of a worker over lists of events, computed by the definition: what each does was reasoned out by hand from the
+-- rules, or by a model that shares nothing with this one. Bytes are written as in a trace.
+use Rattle.std.proofs.Common.{◌≡◌, ℕ, suc, zero, ◌+◌, ◌-◌, ◌*◌, Bool, true, false, List, [], ◌∷◌, ◌++◌, refl, sym, ap, ◌∙◌, append_assoc, append-nil, subst, Option, Some, None, codes}
+use Rattle.std.specs.Prelude.{nat_lt, ◌&&◌, if◌then◌else◌}
+use Rattle.rws_wire.specs.declared.close_reason.CloseReason.TheVariants.{Quit, OutOfOrder, ResultCut, OutcomeUnknown, SessionState}
+use Rattle.rws_wire.specs.declared.drop_cause.DropCause.TheVariants.{BadWire, BadReply, Unasked, End as AtEnd}
+use Rattle.rws_wire.specs.Lenenc.{lenenc, lenenc_bytes}
+use Rattle.rws_wire.specs.Packets.{full_packet, spelling, number_behind}
+use Rattle.rws_wire.specs.Payloads.{payload_behind, first_payload}
+use Rattle.rws_msgs.specs.EofLayout.{eof_at}
+use Rattle.rws_msgs.specs.ErrLayout.{err_at, err_code, err_bytes}
+use Rattle.rws_msgs.specs.Fields.{bytes_at, number_at, fixed_at, lenenc_at, text_at, text_bytes, ended}
+use Rattle.rws_msgs.specs.OkLayout.{state_at, texts_at, ok_at, ok_status, texts_bytes, ok_bytes}
+use Rattle.rws_msgs.specs.PrepareOkLayout.{prepare_ok_at}
+use Rattle.rws_reply.specs.Payloads.{eof_status, prepared_counts, column_count, is_definition, is_row}
+use Rattle.rws_reply.specs.Tracking.{progress}
+use Rattle.rws_board.specs.declared.action.Action.{Action}
+use Rattle.rws_board.specs.declared.action.Action.TheVariants.{ToClient, ToLink, Drop, Close}
+use Rattle.rws_board.specs.declared.event.Event.{Event}
+use Rattle.rws_board.specs.declared.event.Event.TheVariants.{Begin, ClientBytes, ClientGone, LinkBytes, LinkGone, End}
+use Rattle.rws_config.specs.BuiltIn.{built_in}
+use Rattle.rws_record.specs.Run.{Entry, IsRun, IsRunOver, next_entry, events_of, done_in}
+use Rattle.rws_record.specs.Run.Entry.{Came}
+use Rattle.rws_record.specs.Run.IsRun.{starts, came, goes_on}
+use Rattle.rws_record.proofs.EntryLemmas.{of_next_entry, same_events}
+
+-- The run over events, computed
+
+abbrev gone_on : Option Entry → List Entry → List Entry
+gone_on None run = run
+gone_on (Some entry) run = entry ∷ run
+
+-- after at most so many further entries
+abbrev settled : ℕ → List Entry → List Entry
+settled zero run = run
+settled (suc fuel) run = settled fuel (gone_on (next_entry built_in run) run)
+
+-- each event answered in at most so many entries
+abbrev over : ℕ → List Event → List Entry → List Entry
+over fuel [] run = run
+over fuel (event ∷ events) run = over fuel events (settled fuel (Came event ∷ run))
+
+abbrev is_none : Option Entry → Bool
+is_none None = true
+is_none (Some entry) = false
+
+-- no answer took more
+abbrev is_settled : ℕ → List Event → List Entry → Bool
+is_settled fuel [] run = is_none (next_entry built_in run)
+is_settled fuel (event ∷ events) run =
+    is_none (next_entry built_in run) && is_settled fuel events (settled fuel (Came event ∷ run))
+
+-- What is computed is a legal run
+
+gone_on_legal : (run : List Entry) (entry : Option Entry) → IsRun built_in run → next_entry built_in run ≡ entry
+    → IsRun built_in (gone_on entry run)
+gone_on_legal run None legal next = legal
+gone_on_legal run (Some entry) legal next = goes_on legal next
+
+settled_legal : (fuel : ℕ) (run : List Entry) → IsRun built_in run → IsRun built_in (settled fuel run)
+settled_legal zero run legal = legal
+settled_legal (suc fuel) run legal =
+    settled_legal fuel (gone_on (next_entry built_in run) run) (gone_on_legal run (next_entry built_in run) legal refl)
+
+gone_on_events : (run : List Entry) (entry : Option Entry) → next_entry built_in run ≡ entry
+    → events_of (gone_on entry run) ≡ events_of run
+gone_on_events run None next = refl
+gone_on_events run (Some entry) next = same_events (of_next_entry built_in run entry next)
+
+settled_events : (fuel : ℕ) (run : List Entry) → events_of (settled fuel run) ≡ events_of run
+settled_events zero run = refl
+settled_events (suc fuel) run =
+    settled_events fuel (gone_on (next_entry built_in run) run) ∙ gone_on_events run (next_entry built_in run) refl
+
+rests : (entry : Option Entry) → is_none entry ≡ true → entry ≡ None
+rests None e = refl
+rests (Some entry) e = absurd cc
+
+both : (a b : Bool) → (a && b) ≡ true → (a ≡ true) × (b ≡ true)
+both true b e = (refl, e)
+both false b e = absurd cc
+
+legal_over : (fuel : ℕ) (events : List Event) (run : List Entry) → IsRun built_in run → is_settled fuel events run ≡ true
+    → IsRunOver built_in (events_of run ++ events) (over fuel events run)
+legal_over fuel [] run legal settles =
+    record { legal = legal; rests = rests (next_entry built_in run) settles; heard = sym (append-nil (events_of run)) }
+legal_over fuel (event ∷ events) run legal settles =
+    let now : List Entry = settled fuel (Came event ∷ run) in
+    let parts = both (is_none (next_entry built_in run)) (is_settled fuel events now) settles in
+    let now_legal : IsRun built_in now = settled_legal fuel (Came event ∷ run) (came legal (rests (next_entry built_in run) parts.0)) in
+    let events_are : events_of now ++ events ≡ events_of run ++ event ∷ events =
+    ap (λ (list : List Event). list ++ events) (settled_events fuel (Came event ∷ run))
+    ∙ append_assoc (events_of run) (event ∷ []) events in
+    subst (λ (list : List Event). IsRunOver built_in list (over fuel events now)) events_are
+    (legal_over fuel events now now_legal parts.1)
+
+-- the legal run over these events, under the built-in settings, does this
+record Does (events : List Event) (actions : List Action) : Type 0 where
+  run : List Entry
+  legal : IsRunOver built_in events run
+  does : done_in run ≡ actions
+
+does_in : (fuel : ℕ) {events : List Event} {actions : List Action} → is_settled fuel events [] ≡ true
+    → done_in (over fuel events []) ≡ actions → Does events actions
+does_in fuel {events} settles does =
+    record { run = over fuel events []; legal = legal_over fuel events [] starts settles; does = does }
+
+-- Events and actions with bytes as a trace writes them
+
+abbrev digit : ℕ → ℕ
+digit code = if nat_lt code 58 then code - 48 else code - 87
+
+abbrev hex : List ℕ → List ℕ
+hex (high ∷ low ∷ digits) = (16 * digit high + digit low) ∷ hex digits
+hex _ = []
+
+abbrev from_client : ℕ → List ℕ → Event
+from_client session digits = ClientBytes session (hex digits)
+
+abbrev on_link : ℕ → List ℕ → Event
+on_link link digits = LinkBytes link (hex digits)
+
+abbrev to_client : ℕ → List ℕ → Action
+to_client session digits = ToClient session (hex digits)
+
+abbrev to_link : ℕ → List ℕ → Action
+to_link link digits = ToLink link (hex digits)
+
+-- The runs
+
+nothing_happens : Does
+    (End ∷ [])
+    []
+unfolding lenenc lenenc_bytes full_packet spelling number_behind payload_behind first_payload eof_at err_at err_code err_bytes bytes_at number_at fixed_at lenenc_at text_at text_bytes ended state_at texts_at ok_at ok_status texts_bytes ok_bytes prepare_ok_at eof_status prepared_counts column_count is_definition is_row progress
+nothing_happens = does_in 16 refl refl
+
+ping : Does
+    (Begin 1 0 ∷ from_client 1 (codes "010000000e") ∷ End ∷ [])
+    (to_client 1 (codes "0700000100000002000000") ∷ [])
+unfolding lenenc lenenc_bytes full_packet spelling number_behind payload_behind first_payload eof_at err_at err_code err_bytes bytes_at number_at fixed_at lenenc_at text_at text_bytes ended state_at texts_at ok_at ok_status texts_bytes ok_bytes prepare_ok_at eof_status prepared_counts column_count is_definition is_row progress
+ping = does_in 16 refl refl
+
+two_pings_in_one_piece : Does
+    (Begin 1 0 ∷ from_client 1 (codes "010000000e010000000e") ∷ End ∷ [])
+    (to_client 1 (codes "0700000100000002000000") ∷ to_client 1 (codes "0700000100000002000000") ∷ [])
+unfolding lenenc lenenc_bytes full_packet spelling number_behind payload_behind first_payload eof_at err_at err_code err_bytes bytes_at number_at fixed_at lenenc_at text_at text_bytes ended state_at texts_at ok_at ok_status texts_bytes ok_bytes prepare_ok_at eof_status prepared_counts column_count is_definition is_row progress
+two_pings_in_one_piece = does_in 16 refl refl
+
+ping_in_five_pieces : Does
+    (Begin 1 0 ∷ from_client 1 (codes "01") ∷ from_client 1 (codes "00") ∷ from_client 1 (codes "00") ∷
+    from_client 1 (codes "00") ∷ from_client 1 (codes "0e") ∷ End ∷ [])
+    (to_client 1 (codes "0700000100000002000000") ∷ [])
+unfolding lenenc lenenc_bytes full_packet spelling number_behind payload_behind first_payload eof_at err_at err_code err_bytes bytes_at number_at fixed_at lenenc_at text_at text_bytes ended state_at texts_at ok_at ok_status texts_bytes ok_bytes prepare_ok_at eof_status prepared_counts column_count is_definition is_row progress
+ping_in_five_pieces = does_in 16 refl refl
+
+-- the fault shows at the header, and what was sent before it is answered
+out_of_order : Does
+    (Begin 1 0 ∷ from_client 1 (codes "010000000e010000010e") ∷ End ∷ [])
+    (to_client 1 (codes "0700000100000002000000") ∷
+    to_client 1 (codes "1d000001ff84042330385330317061636b657473206f7574206f66206f72646572") ∷
+    Close 1 (OutOfOrder 0 1) ∷ Drop 1 AtEnd ∷ [])
+unfolding lenenc lenenc_bytes full_packet spelling number_behind payload_behind first_payload eof_at err_at err_code err_bytes bytes_at number_at fixed_at lenenc_at text_at text_bytes ended state_at texts_at ok_at ok_status texts_bytes ok_bytes prepare_ok_at eof_status prepared_counts column_count is_definition is_row progress
+out_of_order = does_in 16 refl refl
+
+-- a command of no name, an empty one, and the end
+unknown_then_quit : Does
+    (Begin 1 0 ∷ from_client 1 (codes "0100000077") ∷ from_client 1 (codes "00000000") ∷
+    from_client 1 (codes "0100000001") ∷ End ∷ [])
+    (to_client 1 (codes "18000001ff1704233038533031756e6b6e6f776e20636f6d6d616e64") ∷
+    to_client 1 (codes "18000001ff1704233038533031756e6b6e6f776e20636f6d6d616e64") ∷ Close 1 Quit ∷
+    Drop 1 AtEnd ∷ [])
+unfolding lenenc lenenc_bytes full_packet spelling number_behind payload_behind first_payload eof_at err_at err_code err_bytes bytes_at number_at fixed_at lenenc_at text_at text_bytes ended state_at texts_at ok_at ok_status texts_bytes ok_bytes prepare_ok_at eof_status prepared_counts column_count is_definition is_row progress
+unknown_then_quit = does_in 16 refl refl
+
+-- COM_SET_OPTION, COM_STMT_FETCH and COM_RESET_CONNECTION
+not_supported : Does
+    (Begin 1 1 ∷ from_client 1 (codes "030000001b0000") ∷ from_client 1 (codes "050000001c01000000") ∷
+    from_client 1 (codes "010000001f") ∷ End ∷ [])
+    (to_client 1 (codes "16000001ffd3042334323030306e6f7420737570706f72746564") ∷
+    to_client 1 (codes "16000001ffd3042334323030306e6f7420737570706f72746564") ∷
+    to_client 1 (codes "16000001ffd3042334323030306e6f7420737570706f72746564") ∷ [])
+unfolding lenenc lenenc_bytes full_packet spelling number_behind payload_behind first_payload eof_at err_at err_code err_bytes bytes_at number_at fixed_at lenenc_at text_at text_bytes ended state_at texts_at ok_at ok_status texts_bytes ok_bytes prepare_ok_at eof_status prepared_counts column_count is_definition is_row progress
+not_supported = does_in 16 refl refl
+
+answered_then_lost : Does
+    (Begin 1 0 ∷ from_client 1 (codes "020000000378") ∷ on_link 1 (codes "0700000100000002000000") ∷ LinkGone 1 ∷
+    End ∷ [])
+    (to_link 1 (codes "020000000378") ∷ to_client 1 (codes "0700000100000002000000") ∷ Close 1 SessionState ∷ [])
+unfolding lenenc lenenc_bytes full_packet spelling number_behind payload_behind first_payload eof_at err_at err_code err_bytes bytes_at number_at fixed_at lenenc_at text_at text_bytes ended state_at texts_at ok_at ok_status texts_bytes ok_bytes prepare_ok_at eof_status prepared_counts column_count is_definition is_row progress
+answered_then_lost = does_in 16 refl refl
+
+-- the link is gone already, so it isn't dropped
+lost_with_a_command : Does
+    (Begin 1 0 ∷ from_client 1 (codes "020000000378") ∷ LinkGone 1 ∷ on_link 1 (codes "0700000100000002000000") ∷
+    End ∷ [])
+    (to_link 1 (codes "020000000378") ∷ Close 1 OutcomeUnknown ∷ [])
+unfolding lenenc lenenc_bytes full_packet spelling number_behind payload_behind first_payload eof_at err_at err_code err_bytes bytes_at number_at fixed_at lenenc_at text_at text_bytes ended state_at texts_at ok_at ok_status texts_bytes ok_bytes prepare_ok_at eof_status prepared_counts column_count is_definition is_row progress
+lost_with_a_command = does_in 16 refl refl
+
+-- what waits behind a command is taken up when its reply is whole
+one_after_the_other : Does
+    (Begin 1 0 ∷ from_client 1 (codes "020000000378010000000e0100000001") ∷ on_link 1 (codes "0700000100") ∷
+    on_link 1 (codes "000002000000") ∷ End ∷ [])
+    (to_link 1 (codes "020000000378") ∷ to_client 1 (codes "0700000100000002000000") ∷
+    to_client 1 (codes "0700000100000002000000") ∷ Close 1 Quit ∷ Drop 1 AtEnd ∷ [])
+unfolding lenenc lenenc_bytes full_packet spelling number_behind payload_behind first_payload eof_at err_at err_code err_bytes bytes_at number_at fixed_at lenenc_at text_at text_bytes ended state_at texts_at ok_at ok_status texts_bytes ok_bytes prepare_ok_at eof_status prepared_counts column_count is_definition is_row progress
+one_after_the_other = does_in 16 refl refl
+
+error_of_a_server : Does
+    (Begin 1 0 ∷ from_client 1 (codes "020000000378") ∷ on_link 1 (codes "0b000001ff7a042334325330326e6f") ∷
+    from_client 1 (codes "010000000e") ∷ End ∷ [])
+    (to_link 1 (codes "020000000378") ∷ to_client 1 (codes "0b000001ff7a042334325330326e6f") ∷
+    to_client 1 (codes "0700000100000002000000") ∷ [])
+unfolding lenenc lenenc_bytes full_packet spelling number_behind payload_behind first_payload eof_at err_at err_code err_bytes bytes_at number_at fixed_at lenenc_at text_at text_bytes ended state_at texts_at ok_at ok_status texts_bytes ok_bytes prepare_ok_at eof_status prepared_counts column_count is_definition is_row progress
+error_of_a_server = does_in 16 refl refl
+
+-- an EOF where a reply begins
+no_reply : Does
+    (Begin 1 1 ∷ from_client 1 (codes "020000000378") ∷
+    on_link 1 (codes "05000001fe0000020017000002036465660000000161000c2d000a000000fd0000000000") ∷ End ∷ [])
+    (to_link 1 (codes "020000000378") ∷ Drop 1 BadReply ∷ Close 1 OutcomeUnknown ∷ [])
+unfolding lenenc lenenc_bytes full_packet spelling number_behind payload_behind first_payload eof_at err_at err_code err_bytes bytes_at number_at fixed_at lenenc_at text_at text_bytes ended state_at texts_at ok_at ok_status texts_bytes ok_bytes prepare_ok_at eof_status prepared_counts column_count is_definition is_row progress
+no_reply = does_in 16 refl refl
+
+-- packets are passed on as they are whole, however the bytes are cut
+rows_in_parts : Does
+    (Begin 1 0 ∷ from_client 1 (codes "020000000378") ∷ on_link 1 (codes "010000010117000002") ∷
+    on_link 1 (codes "036465660000000161000c2d000a000000fd000000000005000003fe00000200") ∷
+    on_link 1 (codes "02000004013601000005fb05") ∷ on_link 1 (codes "000006fe00000200") ∷ End ∷ [])
+    (to_link 1 (codes "020000000378") ∷ to_client 1 (codes "0100000101") ∷
+    to_client 1 (codes "17000002036465660000000161000c2d000a000000fd0000000000") ∷
+    to_client 1 (codes "05000003fe00000200") ∷ to_client 1 (codes "020000040136") ∷
+    to_client 1 (codes "01000005fb") ∷ to_client 1 (codes "05000006fe00000200") ∷ [])
+unfolding lenenc lenenc_bytes full_packet spelling number_behind payload_behind first_payload eof_at err_at err_code err_bytes bytes_at number_at fixed_at lenenc_at text_at text_bytes ended state_at texts_at ok_at ok_status texts_bytes ok_bytes prepare_ok_at eof_status prepared_counts column_count is_definition is_row progress
+rows_in_parts = does_in 16 refl refl
+
+error_behind_rows : Does
+    (Begin 4 2 ∷ from_client 4 (codes "020000000378") ∷
+    on_link 1 (codes "010000010117000002036465660000000161000c2d000a000000fd000000000005000003fe0000020002000004013512000005ffbd0423485930303064656164206c6f636b") ∷
+    End ∷ [])
+    (to_link 1 (codes "020000000378") ∷ to_client 4 (codes "0100000101") ∷
+    to_client 4 (codes "17000002036465660000000161000c2d000a000000fd0000000000") ∷
+    to_client 4 (codes "05000003fe00000200") ∷ to_client 4 (codes "020000040135") ∷
+    to_client 4 (codes "12000005ffbd0423485930303064656164206c6f636b") ∷ [])
+unfolding lenenc lenenc_bytes full_packet spelling number_behind payload_behind first_payload eof_at err_at err_code err_bytes bytes_at number_at fixed_at lenenc_at text_at text_bytes ended state_at texts_at ok_at ok_status texts_bytes ok_bytes prepare_ok_at eof_status prepared_counts column_count is_definition is_row progress
+error_behind_rows = does_in 16 refl refl
+
+-- a reply goes on behind an EOF, and behind an OK, that announces another result
+more_results : Does
+    (Begin 1 0 ∷ from_client 1 (codes "020000000378") ∷
+    on_link 1 (codes "010000010117000002036465660000000161000c2d000a000000fd000000000005000003fe00000a0002000004013505000005fe00000a00") ∷
+    from_client 1 (codes "010000000e") ∷ on_link 1 (codes "070000060000000a000000") ∷
+    on_link 1 (codes "0700000700000002000000") ∷ End ∷ [])
+    (to_link 1 (codes "020000000378") ∷ to_client 1 (codes "0100000101") ∷
+    to_client 1 (codes "17000002036465660000000161000c2d000a000000fd0000000000") ∷
+    to_client 1 (codes "05000003fe00000a00") ∷ to_client 1 (codes "020000040135") ∷
+    to_client 1 (codes "05000005fe00000a00") ∷ to_client 1 (codes "070000060000000a000000") ∷
+    to_client 1 (codes "0700000700000002000000") ∷ to_client 1 (codes "0700000100000002000000") ∷ [])
+unfolding lenenc lenenc_bytes full_packet spelling number_behind payload_behind first_payload eof_at err_at err_code err_bytes bytes_at number_at fixed_at lenenc_at text_at text_bytes ended state_at texts_at ok_at ok_status texts_bytes ok_bytes prepare_ok_at eof_status prepared_counts column_count is_definition is_row progress
+more_results = does_in 16 refl refl
+
+-- definitions without their number before them
+field_list : Does
+    (Begin 1 0 ∷ from_client 1 (codes "03000000047400") ∷
+    on_link 1 (codes "18000001036465660000000161000c2d000a000000fd0000000000fb") ∷
+    on_link 1 (codes "05000002fe00000200") ∷ from_client 1 (codes "010000000e") ∷ End ∷ [])
+    (to_link 1 (codes "03000000047400") ∷
+    to_client 1 (codes "18000001036465660000000161000c2d000a000000fd0000000000fb") ∷
+    to_client 1 (codes "05000002fe00000200") ∷ to_client 1 (codes "0700000100000002000000") ∷ [])
+unfolding lenenc lenenc_bytes full_packet spelling number_behind payload_behind first_payload eof_at err_at err_code err_bytes bytes_at number_at fixed_at lenenc_at text_at text_bytes ended state_at texts_at ok_at ok_status texts_bytes ok_bytes prepare_ok_at eof_status prepared_counts column_count is_definition is_row progress
+field_list = does_in 16 refl refl
+
+loss_cuts_a_result : Does
+    (Begin 1 0 ∷ from_client 1 (codes "020000000378") ∷
+    on_link 1 (codes "010000010117000002036465660000000161000c2d000a000000fd0000000000") ∷ LinkGone 1 ∷
+    from_client 1 (codes "010000000e") ∷ End ∷ [])
+    (to_link 1 (codes "020000000378") ∷ to_client 1 (codes "0100000101") ∷
+    to_client 1 (codes "17000002036465660000000161000c2d000a000000fd0000000000") ∷ Close 1 ResultCut ∷ [])
+unfolding lenenc lenenc_bytes full_packet spelling number_behind payload_behind first_payload eof_at err_at err_code err_bytes bytes_at number_at fixed_at lenenc_at text_at text_bytes ended state_at texts_at ok_at ok_status texts_bytes ok_bytes prepare_ok_at eof_status prepared_counts column_count is_definition is_row progress
+loss_cuts_a_result = does_in 16 refl refl
+
+-- a packet under a wrong number
+fault_cuts_a_result : Does
+    (Begin 4 0 ∷ from_client 4 (codes "020000000378") ∷
+    on_link 1 (codes "010000010117000002036465660000000161000c2d000a000000fd000000000005000003fe0000020002000005013505000006fe00000200") ∷
+    End ∷ [])
+    (to_link 1 (codes "020000000378") ∷ to_client 4 (codes "0100000101") ∷
+    to_client 4 (codes "17000002036465660000000161000c2d000a000000fd0000000000") ∷
+    to_client 4 (codes "05000003fe00000200") ∷ Drop 1 BadWire ∷ Close 4 ResultCut ∷ [])
+unfolding lenenc lenenc_bytes full_packet spelling number_behind payload_behind first_payload eof_at err_at err_code err_bytes bytes_at number_at fixed_at lenenc_at text_at text_bytes ended state_at texts_at ok_at ok_status texts_bytes ok_bytes prepare_ok_at eof_status prepared_counts column_count is_definition is_row progress
+fault_cuts_a_result = does_in 16 refl refl
+
+bad_wire : Does
+    (Begin 1 0 ∷ from_client 1 (codes "020000000378") ∷ on_link 1 (codes "0700000200000002000000") ∷ End ∷ [])
+    (to_link 1 (codes "020000000378") ∷ Drop 1 BadWire ∷ Close 1 OutcomeUnknown ∷ [])
+unfolding lenenc lenenc_bytes full_packet spelling number_behind payload_behind first_payload eof_at err_at err_code err_bytes bytes_at number_at fixed_at lenenc_at text_at text_bytes ended state_at texts_at ok_at ok_status texts_bytes ok_bytes prepare_ok_at eof_status prepared_counts column_count is_definition is_row progress
+bad_wire = does_in 16 refl refl
+
+byte_behind_a_reply : Does
+    (Begin 1 0 ∷ from_client 1 (codes "020000000378020000000378") ∷ on_link 1 (codes "070000010000000200000000") ∷
+    End ∷ [])
+    (to_link 1 (codes "020000000378") ∷ to_client 1 (codes "0700000100000002000000") ∷ Drop 1 Unasked ∷
+    Close 1 SessionState ∷ [])
+unfolding lenenc lenenc_bytes full_packet spelling number_behind payload_behind first_payload eof_at err_at err_code err_bytes bytes_at number_at fixed_at lenenc_at text_at text_bytes ended state_at texts_at ok_at ok_status texts_bytes ok_bytes prepare_ok_at eof_status prepared_counts column_count is_definition is_row progress
+byte_behind_a_reply = does_in 16 refl refl
+
+-- three sessions in turn, on the links 1, 2 and 3
+three_sessions : Does
+    (Begin 5 0 ∷ Begin 7 1 ∷ Begin 9 2 ∷ from_client 7 (codes "02000000") ∷ from_client 9 (codes "020000000378") ∷
+    from_client 7 (codes "0379") ∷ on_link 3 (codes "07000001") ∷ from_client 5 (codes "010000000e") ∷
+    on_link 2 (codes "0700000100000003000000") ∷ on_link 3 (codes "00000002000000") ∷ LinkGone 2 ∷
+    from_client 9 (codes "020000000378") ∷ from_client 7 (codes "010000000e") ∷ on_link 1 (codes "00") ∷
+    ClientGone 9 ∷ End ∷ [])
+    (to_link 3 (codes "020000000378") ∷ to_link 2 (codes "020000000379") ∷
+    to_client 5 (codes "0700000100000002000000") ∷ to_client 7 (codes "0700000100000003000000") ∷
+    to_client 9 (codes "0700000100000002000000") ∷ Close 7 SessionState ∷ to_link 3 (codes "020000000378") ∷
+    Drop 1 Unasked ∷ Close 5 SessionState ∷ Drop 3 AtEnd ∷ [])
+unfolding lenenc lenenc_bytes full_packet spelling number_behind payload_behind first_payload eof_at err_at err_code err_bytes bytes_at number_at fixed_at lenenc_at text_at text_bytes ended state_at texts_at ok_at ok_status texts_bytes ok_bytes prepare_ok_at eof_status prepared_counts column_count is_definition is_row progress
+three_sessions = does_in 16 refl refl
+
+-- a fault on one session's link is none of the other session's business
+one_link_breaks : Does
+    (Begin 1 0 ∷ Begin 2 0 ∷ from_client 1 (codes "020000000378") ∷ from_client 2 (codes "020000000378") ∷
+    on_link 1 (codes "01000002") ∷ on_link 2 (codes "0700000100000002000000") ∷ End ∷ [])
+    (to_link 1 (codes "020000000378") ∷ to_link 2 (codes "020000000378") ∷ Drop 1 BadWire ∷
+    Close 1 OutcomeUnknown ∷ to_client 2 (codes "0700000100000002000000") ∷ [])
+unfolding lenenc lenenc_bytes full_packet spelling number_behind payload_behind first_payload eof_at err_at err_code err_bytes bytes_at number_at fixed_at lenenc_at text_at text_bytes ended state_at texts_at ok_at ok_status texts_bytes ok_bytes prepare_ok_at eof_status prepared_counts column_count is_definition is_row progress
+one_link_breaks = does_in 16 refl refl
+
+-- a client that is gone is told nothing more, and closes nothing
+client_gone : Does
+    (Begin 1 0 ∷ from_client 1 (codes "020000000378") ∷ ClientGone 1 ∷
+    on_link 1 (codes "0700000100000002000000") ∷ from_client 1 (codes "010000000e") ∷ ClientGone 1 ∷ End ∷ [])
+    (to_link 1 (codes "020000000378") ∷ Drop 1 AtEnd ∷ [])
+unfolding lenenc lenenc_bytes full_packet spelling number_behind payload_behind first_payload eof_at err_at err_code err_bytes bytes_at number_at fixed_at lenenc_at text_at text_bytes ended state_at texts_at ok_at ok_status texts_bytes ok_bytes prepare_ok_at eof_status prepared_counts column_count is_definition is_row progress
+client_gone = does_in 16 refl refl
+
+-- a session that is over hears nothing, and its number isn't given again
+session_over : Does
+    (Begin 1 0 ∷ from_client 1 (codes "0100000001010000000e") ∷ from_client 1 (codes "010000000e") ∷
+    on_link 1 (codes "00") ∷ LinkGone 1 ∷ ClientGone 1 ∷ Begin 1 0 ∷ from_client 1 (codes "010000000e") ∷ End ∷ [])
+    (Close 1 Quit ∷ Drop 1 AtEnd ∷ [])
+unfolding lenenc lenenc_bytes full_packet spelling number_behind payload_behind first_payload eof_at err_at err_code err_bytes bytes_at number_at fixed_at lenenc_at text_at text_bytes ended state_at texts_at ok_at ok_status texts_bytes ok_bytes prepare_ok_at eof_status prepared_counts column_count is_definition is_row progress
+session_over = does_in 16 refl refl
+
+-- a server that the settings don't have: no session begins and no link is opened, but the number is gone
+no_such_server : Does
+    (Begin 5 3 ∷ from_client 5 (codes "010000000e") ∷ Begin 4 0 ∷ from_client 4 (codes "010000000e") ∷ Begin 5 0 ∷
+    from_client 5 (codes "010000000e") ∷ Begin 6 2 ∷ from_client 6 (codes "020000000378") ∷ End ∷ [])
+    (to_link 1 (codes "020000000378") ∷ [])
+unfolding lenenc lenenc_bytes full_packet spelling number_behind payload_behind first_payload eof_at err_at err_code err_bytes bytes_at number_at fixed_at lenenc_at text_at text_bytes ended state_at texts_at ok_at ok_status texts_bytes ok_bytes prepare_ok_at eof_status prepared_counts column_count is_definition is_row progress
+no_such_server = does_in 16 refl refl
