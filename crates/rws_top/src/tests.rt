@@ -1,4 +1,4 @@
-// What no contract says: that a run succeeds with ample memory, and traces from outside.
+//! What no contract says: that a run succeeds with ample memory, and traces from outside.
 use super::*;
 use rws_board::{CallList, MemSink, MemSource};
 use rws_wire::Text;
@@ -14,8 +14,8 @@ const PONG: &[u8] = b"client 1 0700000100000002000000\n";
 const USAGE: &[u8] =
     b"usage: rwsplit trace SETTINGS | simulate SETTINGS N SESSIONS STEPS | serve SETTINGS | check SETTINGS FILE\n";
 
-// Inputs with their statuses and what is printed.
-const TRACES: [(&[u8], u8, &[u8]); 8] = [
+/// Inputs with their statuses and what is printed.
+const TRACES: [(&[u8], u8, &[u8]); 9] = [
     (A_PING, 0, b"client 1 0700000100000002000000\nend 2\n"),
     // a ping in five pieces
     (
@@ -35,6 +35,12 @@ const TRACES: [(&[u8], u8, &[u8]); 8] = [
         0,
         b"link 1 020000000378\nclient 1 0700000100000002000000\nclose 1 session-state\nend 4\n",
     ),
+    // commands that the proxy answers itself: an unknown one, one that it doesn't take, an empty packet, and a quit
+    (
+        b"begin 1 0\nclient 1 0100000077\nclient 1 010000001f\nclient 1 00000000\nclient 1 0100000001\n",
+        0,
+        b"client 1 18000001ff1704233038533031756e6b6e6f776e20636f6d6d616e64\nclient 1 16000001ffd3042334323030306e6f7420737570706f72746564\nclient 1 18000001ff1704233038533031756e6b6e6f776e20636f6d6d616e64\nclose 1 quit\ndrop 1 end\nend 5\n",
+    ),
     (b"", 0, b"end 0\n"),
     (b"begin 1 0\njump\n", 7, b"bad line 2\n"),
     // a server that isn't there
@@ -47,7 +53,7 @@ const TRACES: [(&[u8], u8, &[u8]); 8] = [
     ),
 ];
 
-// Runs the program over an input and an output of which some calls fail: its status, and what it printed.
+/// Runs the program over an input and an output of which some calls fail: its status, and what it printed.
 fn run_over(
     alloc: Global,
     words: &[&str],

@@ -22,7 +22,7 @@ fn main(rt: HostRuntime) -> ExitCode {
     }
 }
 
-// The words behind the program's name. Where one isn't UTF-8 there are none, which is a faulty command line.
+/// The words behind the program's name. Where one isn't UTF-8 there are none, which is a faulty command line.
 fn words(rt: &(impl Env + AllocGlobal), alloc: Global) -> Result<Vec<String>, AllocError> {
     let mut words = Vec::new(alloc);
     match env::args(rt) {
