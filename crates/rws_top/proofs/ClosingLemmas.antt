@@ -1,5 +1,5 @@
 -- The closing line.
-use Rattle.std.proofs.Common.{◌≡◌, ℕ, ◌<◌, ◌⊎◌, inl, List, ◌++◌, length, take, drop, refl, sym, ap, subst, ◌∙◌, Option, Some, None, append_assoc}
+use Rattle.std.proofs.Common.{◌≡◌, ℕ, inl, List, ◌++◌, length, take, drop, refl, sym, ap, subst, ◌∙◌, Option, Some, None, append_assoc}
 use Rattle.std.proofs.KnownBytes.{Appends-trans}
 use Rattle.std.proofs.lemmas.List.{take-append-drop}
 use Rattle.std.specs.Io.KnownBytes.{IsAtEnd}

@@ -1,12 +1,11 @@
 -- How a worker over the trace of an input ends, from what its board did.
-use Rattle.std.proofs.Common.{◌≡◌, ℕ, ◌+◌, ◌^◌, ◌<◌, ◌≤◌, ◌⊎◌, inl, inr, arith, List, [], ◌∷◌, ◌++◌, length, take, drop, refl, sym, ap, subst, ◌∙◌, Option, Some, None, append_assoc, length-append}
+use Rattle.std.proofs.Common.{◌≡◌, ℕ, ◌+◌, ◌^◌, ◌≤◌, inr, arith, List, [], ◌∷◌, ◌++◌, length, take, drop, refl, sym, ap, subst, ◌∙◌, Option, append_assoc, length-append}
 use Rattle.std.proofs.KnownBytes.{Appends-nil}
 use Rattle.std.proofs.lemmas.List.{append-nil, take-append-drop}
 use Rattle.std.specs.Io.KnownBytes.{Appends}
-use Rattle.rws_board.specs.Boards.{Standing, events_given, actions_taken}
-use Rattle.rws_board.specs.Boards.Standing.{Going, Ended as AtEnd, NextFailed, ActFailed}
+use Rattle.rws_board.specs.Boards.{events_given, actions_taken}
+use Rattle.rws_board.specs.Boards.Standing.{Going, Ended as AtEnd, NextFailed}
 use Rattle.rws_board.specs.Faults.{Rises}
-use Rattle.rws_board.specs.Put.{AppendsFront}
 use Rattle.rws_board.specs.declared.action.Action.{Action}
 use Rattle.rws_board.specs.declared.board_fault.BoardFault.TheVariants as faults
 use Rattle.rws_board.specs.declared.event.Event.{Event}
@@ -14,19 +13,17 @@ use Rattle.rws_board.specs.declared.interaction.Interaction.{Interaction}
 use Rattle.rws_board.specs.declared.interaction.Interaction.TheVariants.{Gave}
 use Rattle.rws_board.proofs.JoinLemmas.{events_given-append, actions_taken-append}
 use Rattle.rws_config.specs.declared.config.Config.{Config}
-use Rattle.rws_record.specs.Run.{Entry, IsRunOver, events_of, done_in}
+use Rattle.rws_record.specs.Run.{Entry, events_of, done_in}
 use Rattle.rws_record.specs.Run.IsRun.{starts}
 use Rattle.rws_trace.specs.Printing.{text_of}
 use Rattle.rws_trace.specs.Reader.{ReaderState, fresh}
 use Rattle.rws_trace.specs.ScriptBoards.{ScriptBoardState, ScriptDid, FirstEvents, Goes, Ends, InputFails, IsCutShort}
 use Rattle.rws_trace.specs.declared.side.Side.{Side}
-use Rattle.rws_trace.specs.declared.side.Side.TheVariants.{Input, Output}
 use Rattle.rws_trace.proofs.Texts.{text_of-append}
 use Rattle.rws_worker.specs.Standing.{interactions_of}
 use Rattle.rws_worker.specs.Working.{IsResting, IsFront, Works}
 use Rattle.rws_worker.specs.Working.Works.{ended, unread as untold, untaken, too_many as full, starved, starved_reading, starved_acting}
 use Rattle.rws_worker.specs.declared.work.WorkEnd.{WorkEnd}
-use Rattle.rws_worker.specs.declared.work.WorkEnd.TheVariants as ends
 use Rattle.rws_worker.proofs.InteractionLemmas.{IsCutAt, actions_taken-run, cut_at}
 use Rattle.rws_top.specs.Trace.{AnswersTrace, HasHeardAll, IsBegun, IsCut, IsScript, settings_of}
 use Rattle.rws_top.specs.Trace.Traces.{unread, unwritten, out_of_memory, too_many}
