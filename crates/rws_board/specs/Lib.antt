@@ -1,5 +1,6 @@
 pub mod Boards
 pub mod Faults
+pub mod Files
 pub mod InMemory
 pub mod Put
 pub mod Streams

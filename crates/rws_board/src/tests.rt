@@ -1,6 +1,6 @@
 //! What no contract says: that calls succeed with ample memory.
 use super::*;
-use rws_wire::DropCause;
+use rws_wire::{DropCause, Text};
 use std::test::Fail;
 
 #[test]
@@ -35,4 +35,37 @@ fn a_board_in_memory_remembers_what_it_did(rt: HostRuntime) -> Result<(), Fail> 
     assert_eq!(rt; board.next(0), Err(BoardFault::Failed));
     assert_eq!(rt; board.interactions().len(), 2);
     Ok(())
+}
+
+#[test]
+fn files_in_memory_are_read_by_their_paths(rt: HostRuntime) -> Result<(), Fail> {
+    let alloc = rt.alloc();
+    let mut list = FileList::new(alloc);
+    list.push(
+        Text::from_slice(alloc, b"a")?,
+        Text::from_slice(alloc, b"one")?,
+    )?;
+    list.push(
+        Text::from_slice(alloc, b"b")?,
+        Text::from_slice(alloc, b"two")?,
+    )?;
+    let mut files = MemFiles::new(list, CallList::from_slice(alloc, &[2])?);
+    let text = files.read(alloc, "b")?;
+    assert_eq!(rt; text.as_slice(), b"two".as_slice());
+    assert!(rt; matches!(files.read(alloc, "c"), Err(FileFault::Failed)));
+    assert!(rt; matches!(files.read(alloc, "a"), Err(FileFault::Failed)));
+    let text = files.read(alloc, "a")?;
+    assert_eq!(rt; text.as_slice(), b"one".as_slice());
+    Ok(())
+}
+
+#[test]
+fn a_file_that_is_not_there_is_a_fault(rt: HostRuntime) {
+    let mut files = SystemFiles::new(&rt);
+    assert!(rt;
+        matches!(
+            files.read(rt.alloc(), "there is no such file"),
+            Err(FileFault::Failed)
+        )
+    );
 }

@@ -5,3 +5,5 @@ pub mod ScriptLemmas
 -- how the trace of an input ends
 pub mod EndLemmas
 pub mod ClosingLemmas
+-- what is answered to words
+pub mod AskingLemmas

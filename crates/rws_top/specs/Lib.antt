@@ -1,2 +1,4 @@
 pub mod Trace
 pub mod Tracing
+pub mod Asking
+pub mod Words

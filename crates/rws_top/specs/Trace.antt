@@ -10,11 +10,6 @@ use Rattle.rws_trace.specs.Script.{Script, script_of}
 use Rattle.rws_trace.specs.Printing.{text_of, end_line, bad_line, usage_line}
 use Rattle.rws_trace.specs.declared.settings.TraceSettings.{TraceSettings}
 
--- the one command so far: the trace of standard input, with the built-in settings
-abbrev pub is_trace : List (List ℕ) → Bool
-is_trace (command ∷ settings ∷ []) = bytes_eq command (codes "trace") && bytes_eq settings (codes "-")
-is_trace words = false
-
 -- the first account has no password
 abbrev pub is_plain : List Account → Bool
 is_plain [] = false
@@ -98,13 +93,3 @@ pub record AnswersTrace (config : Config) (before left taken taken' : Option (Li
   pub of_input : IsScript config before script
   pub took : Appends taken taken' printed
   pub by_status : Traces config script printed before left input_failed output_failed status
-
--- What was printed on other words, by the status.
-pub data Refuses (printed : List ℕ) (output_failed : Type 0) (status : ℕ) : Type 0 where
-  told : status ≡ 2 → printed ≡ usage_line → Refuses printed output_failed status
-  unwritten : status ≡ 5 → output_failed → IsFront printed usage_line → Refuses printed output_failed status
-
-pub record AnswersUsage (taken taken' : Option (List ℕ)) (output_failed : Type 0) (status : ℕ) : Type 0 where
-  pub printed : List ℕ
-  pub took : Appends taken taken' printed
-  pub by_status : Refuses printed output_failed status

@@ -3,7 +3,9 @@
 //! Each status says how the run ended, and what was printed by then is a front of what the run of the input's events prints.
 #![tactic(auto)]
 
+mod asking;
 mod run;
+mod settings;
 mod trace;
 
 pub use run::run_here;

@@ -1,55 +1,59 @@
-//! The top call. Its words are the table's or they aren't: there is no other reading of them.
-ghost use Rattle.std.specs.Prelude.{◌≡◌, false, map, string_bytes, IsTrue};
+//! The top call.
+ghost use Rattle.std.specs.Prelude.{◌≡◌, map, string_bytes};
 ghost use Rattle.rws_board.specs.Faults.{Rises};
 ghost use Rattle.rws_config.specs.BuiltIn.{built_in};
-ghost use Rattle.rws_top.specs.Trace.{AnswersTrace, AnswersUsage, is_trace};
+ghost use Rattle.rws_top.specs.Asking.{Answers, AnswersLine, asks};
+ghost use Rattle.rws_top.specs.Trace.{AnswersTrace};
+ghost use Rattle.rws_trace.specs.Printing.{usage_line};
 
+use crate::asking::{Asked, read_words};
+use crate::settings::trace_with;
 use crate::trace::trace;
-use rws_board::{Failed, Sink, Source};
+use rws_board::{Failed, Files, Sink, Source};
 use rws_config::built_in;
 use rws_trace::usage_line;
 use std::alloc::{AllocError, Global};
 
 /// Runs the program on the words of its command line, without the program's name, and gives its exit status. The words
-/// `trace -` run a worker over the trace that the input holds, with the built-in settings; all other words are answered by
-/// the usage line, which takes no memory. README.md lists what each status means.
-pub fn run_here<I: Source, O: Sink>(
+/// `trace SETTINGS` run a worker over the trace that the input holds, with the settings of a file, or with the built-in ones
+/// where SETTINGS is `-`. `--help` and all other words are answered by the usage line, which takes no memory.
+/// docs/TRACE.md lists what each status means.
+pub fn run_here<I: Source, O: Sink, D: Files>(
     alloc: Global,
     words: &[String],
     input: &mut I,
     out: &mut O,
+    files: &mut D,
 ) -> u8
-    ensures traced { IsTrue (is_trace (map string_bytes words.now))
-        → AnswersTrace built_in (I.left input.old) (I.left input.new) (O.taken out.old) (O.taken out.new)
-        (Rises (I.faults input.old) (I.faults input.new)) (Rises (O.faults out.old) (O.faults out.new)) result }
-    ensures refused { is_trace (map string_bytes words.now) ≡ false
-        → AnswersUsage (O.taken out.old) (O.taken out.new) (Rises (O.faults out.old) (O.faults out.new)) result }
+    ensures answers { Answers (asks (map string_bytes words.now)) (D.files files.old) (I.left input.old) (I.left input.new)
+        (O.taken out.old) (O.taken out.new) (Rises (I.faults input.old) (I.faults input.new))
+        (Rises (D.faults files.old) (D.faults files.new)) (Rises (O.faults out.old) (O.faults out.new)) result }
 {
-    if !asks_for_trace(words) {
-        return refuse(out);
+    match read_words(words) {
+        Asked::BuiltInTrace => trace_built_in(alloc, input, out),
+        Asked::FileTrace(path) => trace_with(alloc, path, input, out, files),
+        Asked::Help => print_usage(out, 0),
+        Asked::Nothing => print_usage(out, 2),
     }
+}
+
+/// The trace with the built-in settings.
+fn trace_built_in<I: Source, O: Sink>(alloc: Global, input: &mut I, out: &mut O) -> u8
+    ensures { AnswersTrace built_in (I.left input.old) (I.left input.new) (O.taken out.old) (O.taken out.new)
+        (Rises (I.faults input.old) (I.faults input.new)) (Rises (O.faults out.old) (O.faults out.new)) result }
+{
     match built_in(alloc) {
         Ok(config) => trace(alloc, &config, input, out),
         Err(AllocError) => 9,
     }
 }
 
-/// The one command so far: the trace of the input, with the built-in settings.
-fn asks_for_trace(words: &[String]) -> bool
-    ensures { result ≡ is_trace (map string_bytes words.now) }
-{
-    match words {
-        [command, settings] => command.as_str() == "trace" && settings.as_str() == "-",
-        _ => false,
-    }
-}
-
-/// Says how the program is called.
-fn refuse<O: Sink>(out: &mut O) -> u8
-    ensures { AnswersUsage (O.taken out.old) (O.taken out.new) (Rises (O.faults out.old) (O.faults out.new)) result }
+/// Says how the program is called, with this status.
+fn print_usage<O: Sink>(out: &mut O, status: u8) -> u8
+    ensures { AnswersLine usage_line status (O.taken out.old) (O.taken out.new) (Rises (O.faults out.old) (O.faults out.new)) result }
 {
     match out.put(usage_line()) {
-        Ok(()) => 2,
+        Ok(()) => status,
         Err(Failed) => 5,
     }
 }

@@ -1,6 +1,6 @@
 //! What no contract says: that a run succeeds with ample memory, and traces from outside.
 use super::*;
-use rws_board::{CallList, MemSink, MemSource};
+use rws_board::{CallList, FileList, MemFiles, MemSink, MemSource};
 use rws_wire::Text;
 use std::alloc::Global;
 use std::test::Fail;
@@ -53,6 +53,27 @@ const TRACES: [(&[u8], u8, &[u8]); 9] = [
     ),
 ];
 
+/// Two files of settings: the second has eight servers.
+const SETTINGS: &[u8] =
+    b"version = 1\n[[server]]\nname = \"a\"\naddress = \"127.0.0.1:3306\"\n[[account]]\nuser = \"app\"\npassword = \"\"\n";
+
+const EIGHT_SERVERS: &[u8] =
+    b"version = 1\nserver = [{name = \"a\", address = \"h:1\"}, {name = \"b\", address = \"h:2\"}, {name = \"c\", address = \"h:3\"}, {name = \"d\", address = \"h:4\"}, {name = \"e\", address = \"h:5\"}, {name = \"f\", address = \"h:6\"}, {name = \"g\", address = \"h:7\"}, {name = \"h\", address = \"h:8\"}]\naccount = [{user = \"app\", password = \"\"}]\n";
+
+/// The files that the program may read: `settings` and `eight`.
+fn files(alloc: Global, fails: &[u64]) -> Result<MemFiles, Fail> {
+    let mut files = FileList::new(alloc);
+    files.push(
+        Text::from_slice(alloc, b"settings")?,
+        Text::from_slice(alloc, SETTINGS)?,
+    )?;
+    files.push(
+        Text::from_slice(alloc, b"eight")?,
+        Text::from_slice(alloc, EIGHT_SERVERS)?,
+    )?;
+    Ok(MemFiles::new(files, CallList::from_slice(alloc, fails)?))
+}
+
 /// Runs the program over an input and an output of which some calls fail: its status, and what it printed.
 fn run_over(
     alloc: Global,
@@ -61,14 +82,25 @@ fn run_over(
     read_fails: &[u64],
     write_fails: &[u64],
 ) -> Result<(u8, MemSink), Fail> {
+    run_with(alloc, words, input, (read_fails, write_fails, &[]))
+}
+
+/// The same with files of which some calls fail too.
+fn run_with(
+    alloc: Global,
+    words: &[&str],
+    input: &[u8],
+    fails: (&[u64], &[u64], &[u64]),
+) -> Result<(u8, MemSink), Fail> {
     let mut owned = Vec::new(alloc);
     for word in words {
         owned.push(String::from_str(alloc, word)?)?;
     }
     let bytes = Text::from_slice(alloc, input)?;
-    let mut source = MemSource::new(bytes, CallList::from_slice(alloc, read_fails)?);
-    let mut sink = MemSink::new(alloc, 1024, CallList::from_slice(alloc, write_fails)?)?;
-    let status = run_here(alloc, &owned, &mut source, &mut sink);
+    let mut source = MemSource::new(bytes, CallList::from_slice(alloc, fails.0)?);
+    let mut sink = MemSink::new(alloc, 1024, CallList::from_slice(alloc, fails.1)?)?;
+    let mut files = files(alloc, fails.2)?;
+    let status = run_here(alloc, &owned, &mut source, &mut sink, &mut files);
     Ok((status, sink))
 }
 
@@ -102,5 +134,50 @@ fn a_fault_in_mid_stream_ends_the_run(rt: HostRuntime) -> Result<(), Fail> {
     let (ended, sink) = run_over(rt.alloc(), &TRACE, A_PING, &[], &[1])?;
     assert_eq!(rt; ended, 5);
     assert_eq!(rt; sink.as_slice(), PONG);
+    Ok(())
+}
+
+/// Words over an input of one ping, with the calls of the files that fail, the status and what is printed.
+const WITH_FILES: [(&[&str], &[u64], u8, &[u8]); 6] = [
+    (
+        &["trace", "settings"],
+        &[],
+        0,
+        b"client 1 0700000100000002000000\nend 2\n",
+    ),
+    (
+        &["trace", "eight"],
+        &[],
+        3,
+        b"settings: too many servers 8\n",
+    ),
+    (&["trace", "missing"], &[], 4, b""),
+    (&["trace", "settings"], &[0], 4, b""),
+    (&["--help"], &[0], 0, USAGE),
+    (&["--help", "-"], &[], 2, USAGE),
+];
+
+#[test]
+fn settings_come_from_a_file(rt: HostRuntime) -> Result<(), Fail> {
+    for (words, fails, status, printed) in &WITH_FILES {
+        let (ended, sink) = run_with(rt.alloc(), words, A_PING, (&[], &[], fails))?;
+        assert_eq!(rt; ended, *status);
+        assert_eq!(rt; sink.as_slice(), *printed);
+    }
+    Ok(())
+}
+
+#[test]
+fn lines_are_read_by_the_settings(rt: HostRuntime) -> Result<(), Fail> {
+    // one server: there is none of number 1
+    let words = ["trace", "settings"];
+    let (ended, sink) = run_over(rt.alloc(), &words, b"begin 1 1\n", &[], &[])?;
+    assert_eq!(rt; ended, 7);
+    assert_eq!(rt; sink.as_slice(), b"bad line 1\n".as_slice());
+    // the refusal can't be printed
+    let words = ["trace", "eight"];
+    let (ended, sink) = run_over(rt.alloc(), &words, A_PING, &[], &[0])?;
+    assert_eq!(rt; ended, 5);
+    assert_eq!(rt; sink.as_slice(), b"".as_slice());
     Ok(())
 }

@@ -2,7 +2,7 @@
 //! the crates below.
 #![tactic(auto)]
 
-use rws_board::{ReadSource, WriteSink};
+use rws_board::{ReadSource, SystemFiles, WriteSink};
 use rws_top::run_here;
 use std::alloc::{AllocError, Global};
 use std::process::ExitCode;
@@ -16,8 +16,9 @@ fn main(rt: HostRuntime) -> ExitCode {
     let alloc = rt.alloc();
     let mut input = ReadSource::new(rt.stdin());
     let mut out = WriteSink::new(rt.stdout());
+    let mut files = SystemFiles::new(&rt);
     match words(&rt, alloc) {
-        Ok(words) => ExitCode::from(run_here(alloc, &words, &mut input, &mut out)),
+        Ok(words) => ExitCode::from(run_here(alloc, &words, &mut input, &mut out, &mut files)),
         Err(AllocError) => ExitCode::from(OUT_OF_MEMORY),
     }
 }
