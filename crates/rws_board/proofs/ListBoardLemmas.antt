@@ -1,5 +1,5 @@
 -- What a board in memory did in one call.
-use Rattle.std.proofs.Common.{◌≡◌, ◌≢◌, ◌↔◌, [], ◌∷◌, ◌++◌, inl, inr, Result, Ok, Err, MatchResult, IsErrOf, refl, sym, ◌∙◌, ap, subst, append-nil}
+use Rattle.std.proofs.Common.{◌≡◌, ◌≢◌, ◌↔◌, [], ◌∷◌, ◌++◌, inr, Result, Ok, Err, MatchResult, IsErrOf, refl, sym, ◌∙◌, ap, subst, append-nil}
 use Rattle.std.specs.Result.{IsErrAnd}
 use Rattle.rws_board.specs.Boards.{ListBoardState, ListDid, given, standing_after}
 use Rattle.rws_board.specs.Boards.Standing.{NextFailed, ActFailed}

@@ -1,5 +1,5 @@
 -- What is answered to words.
-use Rattle.std.proofs.Common.{◌≡◌, ℕ, true, false, List, Option, take, drop, refl, sym, ◌∙◌, Result, Err}
+use Rattle.std.proofs.Common.{◌≡◌, ℕ, false, List, Option, take, drop, refl, sym, ◌∙◌, Result, Err}
 use Rattle.std.proofs.lemmas.List.{take-append-drop}
 use Rattle.rws_board.specs.Put.{AppendsFront}
 use Rattle.rws_config.specs.Settings.{Gives, settings_of}

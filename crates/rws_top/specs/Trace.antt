@@ -1,5 +1,5 @@
 -- What the program answers and prints, by its status.
-use Rattle.std.specs.Prelude.{◌≡◌, ℕ, ◌+◌, ◌^◌, ◌<◌, ◌≤◌, ◌⊎◌, Bool, false, ◌&&◌, List, [], ◌∷◌, ◌++◌, length, codes, bytes_eq, Option, Some, None, is_none, ⊤}
+use Rattle.std.specs.Prelude.{◌≡◌, ℕ, ◌+◌, ◌^◌, ◌<◌, ◌≤◌, ◌⊎◌, Bool, false, List, [], ◌∷◌, ◌++◌, length, Option, Some, None, is_none, ⊤}
 use Rattle.std.specs.Io.KnownBytes.{Appends, IsAtEnd}
 use Rattle.rws_board.specs.declared.event.Event.{Event}
 use Rattle.rws_config.specs.declared.account.Account.{Account}
@@ -7,7 +7,7 @@ use Rattle.rws_config.specs.declared.config.Config.{Config}
 use Rattle.rws_record.specs.Run.{Entry, IsRunOver, done_in}
 use Rattle.rws_trace.specs.Lines.{IsFeedless, IsWhole as IsWholeLines}
 use Rattle.rws_trace.specs.Script.{Script, script_of}
-use Rattle.rws_trace.specs.Printing.{text_of, end_line, bad_line, usage_line}
+use Rattle.rws_trace.specs.Printing.{text_of, end_line, bad_line}
 use Rattle.rws_trace.specs.declared.settings.TraceSettings.{TraceSettings}
 
 -- the first account has no password
