@@ -1,2 +1,3 @@
+pub mod Probes
 pub mod Rounds
 pub mod Shown

@@ -3,9 +3,11 @@
 #![tactic(auto)]
 
 mod probe;
+mod reading;
 mod states;
 
 pub use probe::{Probe, Source};
+pub use reading::read_probe;
 pub use states::{States, round};
 
 #[cfg(test)]

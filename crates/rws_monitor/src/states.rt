@@ -1,5 +1,5 @@
 //! The rule of a round.
-ghost use Rattle.std.specs.Prelude.{◌≡◌, ◌<◌, ℕ, None, Some, IfSome, position, slice_index_or, map, IsTrue};
+ghost use Rattle.std.specs.Prelude.{◌≡◌, ◌↔◌, ◌<◌, ℕ, None, Some, IfSome, position, slice_index_or, map, IsTrue};
 ghost use Rattle.std.specs.List.{range_with_len, list_all};
 ghost use Rattle.rws_monitor.specs.Rounds.{is_in, counted_at, counted, is_root, is_root_at, names, followers, is_within, leads, primary_of, kept_id, follows, role, is_at, seen_in, seen_at, round_of};
 ghost use Rattle.rws_monitor.specs.Shown.{IsMaster, HasOneMaster, IsOutOfService, ArePositionsProbed};
@@ -22,7 +22,7 @@ pub struct States {
 pub fn round(probes: &[Option<Probe>; 7], maintenance: u8, old: &States) -> States
     ensures rules { result ≡ round_of probes.now maintenance old.now }
 
-    ensures master { (server : ℕ) → IsMaster result server → result.primary ≡ Some server }
+    ensures master { (server : ℕ) → IsMaster result server ↔ (result.primary ≡ Some server) }
     ensures one_master { HasOneMaster result }
     ensures maintenance { (server : ℕ) → server < 7 → IsTrue (is_in maintenance server) → IsOutOfService result server }
     ensures positions { ArePositionsProbed probes.now result }
