@@ -54,7 +54,7 @@ pub fn is_row(columns: usize, payload: &[u8]) -> bool
     ensures { result ≡ is_ok (row_at columns payload.now) }
 {
     let mut rest = payload;
-    for _column in 0..columns {
+    for column in 0..columns {
         match cell_at(rest) {
             Ok((_, behind)) => rest = behind,
             Err(_) => return false,
@@ -79,12 +79,14 @@ pub fn row_at(alloc: Global, columns: usize, payload: &[u8]) -> Result<Row, Read
 {
     let mut row = Row::new(alloc);
     let mut rest = payload;
-    for _column in 0..columns {
-        let Ok((cell, behind)) = cell_at(rest) else {
-            return Err(ReadFault::NotAResult);
-        };
-        row.push(copied(alloc, cell)?)?;
-        rest = behind;
+    for column in 0..columns {
+        match cell_at(rest) {
+            Ok((cell, behind)) => {
+                row.push(copied(alloc, cell)?)?;
+                rest = behind;
+            }
+            Err(_) => return Err(ReadFault::NotAResult),
+        }
     }
     if rest.is_empty() {
         Ok(row)

@@ -1,5 +1,6 @@
 //! The parts of a result set by their places, which are found and looked at without memory.
-ghost use Rattle.std.specs.Prelude.{◌≡◌, is_some, length};
+ghost use Rattle.std.specs.Prelude.{◌≡◌, is_ok, is_some, length};
+ghost use Rattle.std.specs.List.{list_all};
 ghost use Rattle.std.specs.Option.{option_map};
 ghost use Rattle.rws_result.specs.Answers.{Gives};
 ghost use Rattle.rws_result.specs.Cells.{each, name_at, row_at};
@@ -50,21 +51,30 @@ pub fn parts_of(payloads: &[Text]) -> Option<Parts<'_>>
     Some(Parts { definitions, rows })
 }
 
+/// Whether each of these is the definition of a column.
+fn are_definitions(payloads: &[Text]) -> bool
+    ensures { result ≡ list_all (λ payload. is_ok (name_at payload)) payloads.now }
+{
+    payloads
+        .iter()
+        .all(|payload| name_at(payload.as_slice()).is_ok())
+}
+
+/// Whether each of these is a row of so many columns.
+fn are_rows(columns: usize, payloads: &[Text]) -> bool
+    ensures { result ≡ list_all (λ payload. is_ok (row_at columns payload)) payloads.now }
+{
+    payloads
+        .iter()
+        .all(|payload| is_row(columns, payload.as_slice()))
+}
+
 impl Parts<'_> {
     /// Whether each definition and each row can be read.
     pub fn is_readable(self) -> bool
         ensures { result ≡ is_some (read_parts (parts self.entry)) }
     {
-        let columns = self.definitions.len();
-        let definitions = self
-            .definitions
-            .iter()
-            .all(|payload| name_at(payload.as_slice()).is_ok());
-        definitions
-            && self
-                .rows
-                .iter()
-                .all(|payload| is_row(columns, payload.as_slice()))
+        are_definitions(self.definitions) && are_rows(self.definitions.len(), self.rows)
     }
 
     /// The names of the columns.
@@ -73,10 +83,10 @@ impl Parts<'_> {
     {
         let mut names = TextList::new(alloc);
         for definition in self.definitions {
-            let Ok(name) = name_at(definition.as_slice()) else {
-                return Err(ReadFault::NotAResult);
-            };
-            names.push(Text::from_slice(alloc, name)?)?;
+            match name_at(definition.as_slice()) {
+                Ok(name) => names.push(Text::from_slice(alloc, name)?)?,
+                Err(_) => return Err(ReadFault::NotAResult),
+            }
         }
         Ok(names)
     }
