@@ -6,3 +6,4 @@ mod Packs
 mod Parts
 mod Prefixes
 mod Standing
+mod Together

@@ -176,7 +176,7 @@ splits seat v live =
     forks seat v (left_half v) (right_half v) live (λ log f _. left_fits log v f) (λ log f _. right_fits log v f)
     (λ n c. (live, ⊎_elim (λ o. inl (left_owned v n o)) (λ h. inr h) c.1))
     (λ n c. (live, ⊎_elim (λ o. inl (right_owned v n o)) (λ h. absurd h) c.1))
-    (λ log f n c c'. ⊎_elim (λ o'. ⊎_elim (λ o. halves_apart v n f.whole.stepped o o') (λ h. f.unowned n h (right_owned v n o')) c.1) (λ h. absurd h) c'.1)
+    (λ log f n c c'. ⊎_elim (λ o'. ⊎_elim (λ o. halves_apart v n f.whole.stepped o o') (λ h. f.whole.apart.0 n (right_owned v n o') h) c.1) (λ h. absurd h) c'.1)
 
 -- the whole view is handed over
 pub hands : (seat : ℕ) (v : View) → v.live ≡ true → Forks Kept seat v nobody v

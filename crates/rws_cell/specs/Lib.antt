@@ -1,4 +1,5 @@
 pub mod Packing
+pub mod Passes
 pub mod Rule
 pub mod Shown
 pub mod Views

@@ -1,5 +1,5 @@
 -- The rule of the cell: there is one history, the words are those after it, and each pass has seen a beginning of it.
-use Rattle.std.specs.Prelude.{◌≡◌, ◌≢◌, ◌⊎◌, ◌+◌, ◌*◌, ◌^◌, ◌<◌, ℕ, true, false, List, [], nat_eq, slice_index, MatchBool}
+use Rattle.std.specs.Prelude.{◌≡◌, ◌≢◌, ◌^◌, ◌<◌, ℕ, true, false, List, [], nat_eq, slice_index, MatchBool}
 use mathlib.Core.Option.{some}
 use lib.ListN.{get_elem?}
 use lib.Pointwise.{pointwise}
@@ -7,19 +7,15 @@ use Rattle.rws_pool.specs.declared.words.PoolWords.{PoolWords}
 use Rattle.rws_pool.specs.declared.events.PoolEvent.{PoolEvent}
 use Rattle.rws_pool.specs.declared.events.PoolEvent.TheVariants.{Route}
 use Rattle.rws_pool.specs.declared.events.Entry.{Entry}
-use Rattle.rws_pool.specs.History.{calls_by, words_after}
+use Rattle.rws_pool.specs.History.{words_after}
 use Rattle.rws_pool.specs.Machine.{pool_step}
 use Rattle.rws_cell.specs.declared.view.View.{View}
 use Rattle.rws_cell.specs.Packing.{packed_words}
-use Rattle.rws_cell.specs.Views.{StartsWith, Has, EachStands, parts, IsWhole, Extends}
-
--- a pass may give away the numbers of its residue class, of which it uses the least
-abbrev pub Owns : View → ℕ → Type 0
-Owns v n = (k : ℕ) × (n ≡ v.number + k * v.step)
+use Rattle.rws_cell.specs.Views.{StartsWith, AnyOwns, EachStands, parts, IsWhole, Extends}
 
 -- the numbers that no other pass may have
 abbrev pub Claims : View → ℕ → Type 0
-Claims v n = (v.live ≡ true) × (Owns v n ⊎ Has v.joined n)
+Claims v n = (v.live ≡ true) × AnyOwns (parts v) n
 
 -- what the history holds of a pass that is in use
 pub record Fits (log : List Entry) (v : View) : Type 0 where
@@ -27,8 +23,6 @@ pub record Fits (log : List Entry) (v : View) : Type 0 where
   pub begins : StartsWith log v.seen
   pub told : StartsWith v.seen v.told
   pub stands : EachStands log (parts v)
-  pub unused : (n : ℕ) → Owns v n → n ≢ v.number → calls_by n log ≡ []
-  pub unowned : (n : ℕ) → Has v.joined n → ¬ Owns v n
 
 abbrev pub AllFit : List Entry → List View → Type 0
 AllFit log views = (seat : ℕ) (v : View) → get_elem? views seat ≡ some v → v.live ≡ true → Fits log v

@@ -1,5 +1,5 @@
 -- What a pass has seen of the one history, and how its calls change that.
-use Rattle.std.specs.Prelude.{◌≡◌, ◌⊎◌, ◌+◌, ◌<◌, ℕ, true, List, [], ◌∷◌, ◌++◌, length, nat_lt, if◌then◌else◌}
+use Rattle.std.specs.Prelude.{◌≡◌, ◌≢◌, ◌⊎◌, ◌+◌, ◌*◌, ◌<◌, ℕ, true, List, [], ◌∷◌, ◌++◌, length, nat_lt, if◌then◌else◌}
 use Rattle.rws_pool.specs.declared.events.PoolEvent.{PoolEvent}
 use Rattle.rws_pool.specs.declared.events.Entry.{Entry}
 use Rattle.rws_pool.specs.History.{entry, calls_by}
@@ -14,21 +14,36 @@ abbrev pub Has : List Part → ℕ → Type 0
 Has [] n = ⊥
 Has (p ∷ parts) n = (p.number ≡ n) ⊎ Has parts n
 
--- no number stands twice
+-- the numbers of a part's residue class: it makes its calls under the least, and no other pass may have one of them
+abbrev pub Owns : Part → ℕ → Type 0
+Owns p n = (k : ℕ) × (n ≡ p.number + k * p.step)
+
+-- one of the parts owns the number
+abbrev pub AnyOwns : List Part → ℕ → Type 0
+AnyOwns [] n = ⊥
+AnyOwns (p ∷ parts) n = Owns p n ⊎ AnyOwns parts n
+
+-- no number has two owners
 abbrev pub AllApart : List Part → Type 0
 AllApart [] = Unit {0}
-AllApart (p ∷ parts) = (¬ Has parts p.number) × AllApart parts
+AllApart (p ∷ parts) = ((n : ℕ) → Owns p n → ¬ AnyOwns parts n) × AllApart parts
 
--- each part's calls are those that the history has under its number, each once, in order
+-- the part's calls are those that the history has under its number, each once, in order; under the other numbers that it owns the history has none
+abbrev pub Stands : List Entry → Part → Type 0
+Stands history p = (calls_by p.number history ≡ p.calls) × ((n : ℕ) → Owns p n → n ≢ p.number → calls_by n history ≡ [])
+
 abbrev pub EachStands : List Entry → List Part → Type 0
 EachStands history [] = Unit {0}
-EachStands history (p ∷ parts) = (calls_by p.number history ≡ p.calls) × EachStands history parts
+EachStands history (p ∷ parts) = Stands history p × EachStands history parts
 
 -- a pass with its own calls, and the passes that were joined into it with theirs
-abbrev pub parts : View → List Part
-parts v = record { number = v.number; calls = v.mine } ∷ v.joined
+abbrev pub own_part : View → Part
+own_part v = record { number = v.number; step = v.step; calls = v.mine }
 
--- the calls of the pass, and of all that were joined into it, stand in the history that it has seen, under numbers of their own
+abbrev pub parts : View → List Part
+parts v = own_part v ∷ v.joined
+
+-- the calls of the pass, and of all that were joined into it, stand in the history that it has seen, under numbers of their own, and no entry has another of their numbers
 pub record IsWhole (v : View) : Type 0 where
   pub live : v.live ≡ true
   pub stepped : 0 < v.step
@@ -46,10 +61,10 @@ called v between event = record v {
   mine = v.mine ++ event ∷ [];
 }
 
--- the history seen begins with what had been seen, has other passes' entries next, and ends with this call
+-- the history seen begins with what had been seen, has next entries of numbers that neither the pass nor one joined into it owns, and ends with this call
 pub record Extends (v : View) (event : PoolEvent) (w : View) : Type 0 where
   pub between : List Entry
-  pub others : calls_by v.number between ≡ []
+  pub others : (n : ℕ) → AnyOwns (parts v) n → calls_by n between ≡ []
   pub is : w ≡ called v between event
   pub whole : IsWhole w
 

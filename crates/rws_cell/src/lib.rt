@@ -2,11 +2,13 @@
 #![tactic(auto)]
 
 mod cell;
+mod law;
 mod packing;
 mod seat;
 mod view;
 
 pub use cell::{Pass, PoolCell};
+pub use law::each_entry_has_its_pass;
 pub use view::{Part, View};
 
 #[cfg(test)]

@@ -7,10 +7,12 @@ use rws_pool::{Entry, PoolEvent};
 use std::collections::LinkedList;
 use std::marker::{Brand, PhantomData};
 
-/// A pass that was joined into another: its number and its calls.
+/// A pass that was joined into another: its numbers and its calls.
 pub struct Part {
     /// The number under which its calls stand.
     pub number: u64,
+    /// The distance of the numbers that it could still have given away.
+    pub step: u64,
     /// Its calls, in the order of the history.
     pub calls: LinkedList<PoolEvent>,
 }

@@ -115,7 +115,7 @@ fn query(payload: &[u8]) -> Step
         result_end(status)
     } else if let Some(code) = err_code(payload) {
         Step::failed(code)
-    } else if let Some(count) = payload::columns(payload) {
+    } else if let Some(count) = payload::column_count(payload) {
         Step::Goes(Awaits::Definitions(count))
     } else {
         Step::Wrong

@@ -18,5 +18,6 @@ mod tracker;
 pub use client::client_payload;
 pub use kind::{BadReply, Kind, Outcome, Progress};
 pub use law::{client_replies_are_replies, progress_is_exact, replies_end_once, role_is_exact};
+pub use payload::column_count;
 pub use role::Role;
 pub use tracker::ReplyTracker;

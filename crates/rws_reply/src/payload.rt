@@ -25,9 +25,10 @@ pub fn eof(payload: &[u8]) -> Option<u16>
     }
 }
 
-/// How many columns a result has.
+/// How many columns a result has, where the payload is that number: a length-encoded integer of at least 1 with nothing
+/// behind it. It takes no memory.
 #[tactic(auto, unfolding(crate::specs::Payloads::column_count))]
-pub fn columns(payload: &[u8]) -> Option<u64>
+pub fn column_count(payload: &[u8]) -> Option<u64>
     ensures { result ≡ column_count payload.now }
 {
     match split_lenenc(payload) {

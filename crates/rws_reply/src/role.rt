@@ -36,7 +36,7 @@ fn reads_as(role: Role, payload: &[u8]) -> bool
         Role::Ok => ok_status(payload, true).is_some(),
         Role::Err => err_code(payload).is_some(),
         Role::Prepared => payload::prepared(payload).is_some(),
-        Role::Count => payload::columns(payload).is_some(),
+        Role::Count => payload::column_count(payload).is_some(),
         Role::Definition => payload::definition(payload),
         Role::Eof => payload::eof(payload).is_some(),
         Role::Row => payload::row(payload),

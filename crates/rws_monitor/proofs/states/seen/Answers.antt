@@ -1,0 +1,7 @@
+use Rattle.std.proofs.Common.{None, arith}
+use Rattle.std.proofs.lemmas.List.FromFn.{fill_by_all}
+use Rattle.rws_monitor.specs.Rounds.{seen_at}
+use Rattle.rws_monitor.proofs.states.seen.Goals as goal
+
+pub returns : goal.returns
+returns c = fill_by_all (seen_at c.args.probes.now c.args.maintenance c.args.primary c.args.primary_id) c.loop-server.seen 7 None c.loop-server.invariant.0 (λ k below. c.loop-server.invariant.1 k (omega arith))

@@ -1,0 +1,6 @@
+-- single payloads, and the whole
+pub mod Cells
+pub mod ResultSets
+-- what calls answer
+pub mod Found
+pub mod Answers
