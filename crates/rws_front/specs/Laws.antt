@@ -1,0 +1,1 @@
+-- Laws on the steps of a front.

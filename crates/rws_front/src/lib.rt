@@ -1,0 +1,19 @@
+//! The client's side of a login: a front greets its client, judges the login by the accounts of the settings, and then hands out
+//! the client's commands ("Connection", in MariaDB's protocol documentation). Bytes go in by `feed` in any pieces, and steps come
+//! out by `next`; nothing here reads or writes a socket.
+#![tactic(auto)]
+
+mod access;
+mod front;
+mod messages;
+mod phase;
+mod refusal;
+mod response;
+mod step;
+
+pub use front::Front;
+pub use rws_native::Login;
+pub use step::FrontStep;
+
+#[cfg(test)]
+mod tests;
