@@ -5,6 +5,7 @@
 
 mod access;
 mod front;
+mod law;
 mod messages;
 mod phase;
 mod refusal;
@@ -12,6 +13,7 @@ mod response;
 mod step;
 
 pub use front::Front;
+pub use law::{errors_are_numbered, logins_are_proved, pieces_change_nothing, steps_are_moves};
 pub use rws_native::Login;
 pub use step::FrontStep;
 
