@@ -1,8 +1,10 @@
 -- Who is granted a login has proved the password of an account.
-use Rattle.std.proofs.Common.{◌≡◌, ℕ, zero, suc, ◌<◌, Bool, true, false, cond, ◌&&◌, ◌==◌, List, [], ◌∷◌, length, Option, Some, None, refl, sym, arith}
+use Rattle.std.proofs.Common.{◌≡◌, ℕ, zero, suc, ◌<◌, Bool, true, false, cond, ◌&&◌, ◌==◌, List, [], ◌∷◌, length, Option, Some, None, refl, sym, ap, ◌∙◌, arith}
 use Rattle.std.specs.Prelude.{IfSome, Contains}
 use Rattle.std.specs.List.{find}
 use Rattle.std.specs.Str.{bytes_eq}
+use Rattle.std.proofs.lemmas.Bool.{eq-eqb}
+use Rattle.std.specs.Cmp.Derive.{both_true}
 use Rattle.std.specs.Cmp.Lexicographic.{same_text}
 use Rattle.sha1.specs.Sha1.{sha1}
 use Rattle.rws_wire.specs.declared.fault.WireFault.{WireFault}
@@ -11,7 +13,8 @@ use Rattle.rws_wire.specs.Packets.{spelling, next_number}
 use Rattle.rws_wire.specs.Payloads.{Beginning, Nothing, Whole, Faulty}
 use Rattle.rws_msgs.specs.declared.response.Response.{Response}
 use Rattle.rws_msgs.specs.SwitchLayout.{switch_bytes}
-use Rattle.rws_native.specs.Native.{stage1_in}
+use Rattle.rws_native.specs.Native.{xor, mask, answer_of, stage1_in}
+use Rattle.rws_native.proofs.MixingLemmas.{xor_again}
 use Rattle.rws_config.specs.declared.account.Account.{Account}
 use Rattle.rws_front.specs.declared.access.Access.{Access}
 use Rattle.rws_front.specs.declared.access.Access.TheVariants.{Denied, Granted}
@@ -23,7 +26,7 @@ use Rattle.rws_front.specs.Accesses.{is_answer, granted, granted_by, access_of}
 use Rattle.rws_front.specs.Fronting.{Fronting}
 use Rattle.rws_front.specs.Messages.{switch_of}
 use Rattle.rws_front.specs.Connection.{settled, responded, response_in, is_native, fault_number, heard, step_of}
-use Rattle.rws_front.specs.Laws.{Proves, IsProved, ForLogin, LoginsAreProved}
+use Rattle.rws_front.specs.Laws.{Proves, IsProved, ForLogin, LoginsAreProved, AnswersAreGranted}
 
 -- what is granted, if it is
 abbrev ForGranted : Access → (Option (List ℕ) → Type 0) → Type 0
@@ -131,7 +134,7 @@ by_phase accounts session scramble (AwaitsAnswer response asked) stream =
     (λ payload next. settled (access_of accounts response.user scramble payload) response next) (fault_number asked (next_number asked))
     (next_of stream (next_number asked)) tt
     (λ payload next. settled_sound accounts (access_of accounts response.user scramble payload) response next
-      (access_proves accounts response.user scramble payload))
+    (access_proves accounts response.user scramble payload))
 by_phase accounts session scramble (LogsIn login) stream = tt
 by_phase accounts session scramble Commands stream =
     heard_sound accounts (record { session = session; scramble = scramble; phase = Commands; stream = stream })
@@ -140,3 +143,29 @@ by_phase accounts session scramble (Ended reason) stream = tt
 
 pub logins_are_proved : LoginsAreProved
 logins_are_proved accounts front = by_phase accounts front.session front.scramble front.phase front.stream
+
+-- and who knows the password is granted its login
+made_whole : (stage1 scramble : List ℕ) → (length (answer_of stage1 scramble) == 20) ≡ true
+unfolding xor
+made_whole stage1 scramble = refl
+
+bytes_again : (bytes : List ℕ) → bytes_eq bytes bytes ≡ true
+bytes_again [] = refl
+bytes_again (byte ∷ bytes) = both_true (eq-eqb byte byte refl) (bytes_again bytes)
+
+made_right : (stage1 scramble : List ℕ) → length stage1 ≡ 20 → is_answer (sha1 stage1) scramble (answer_of stage1 scramble) ≡ true
+made_right stage1 scramble whole =
+    both_true (made_whole stage1 scramble)
+    (ap (λ (t : List ℕ). bytes_eq (sha1 t) (sha1 stage1)) (xor_again stage1 (mask scramble (sha1 stage1)) whole) ∙ bytes_again (sha1 stage1))
+
+granted_answer : (stage1 scramble : List ℕ) → length stage1 ≡ 20
+    → granted (Some (sha1 stage1)) scramble (answer_of stage1 scramble) ≡ Granted (Some stage1)
+granted_answer stage1 scramble whole =
+    ap (λ (b : Bool). cond b (Granted (Some (stage1_in (answer_of stage1 scramble) scramble (sha1 stage1)))) Denied) (made_right stage1 scramble whole)
+    ∙ ap (λ (t : List ℕ). Granted (Some t)) (xor_again stage1 (mask scramble (sha1 stage1)) whole)
+
+pub answers_are_granted : AnswersAreGranted
+answers_are_granted accounts account user stage1 scramble whole is stored =
+    ap (λ (holder : Option Account). granted_by holder scramble (answer_of stage1 scramble)) is
+    ∙ ap (λ (digest : Option (List ℕ)). granted digest scramble (answer_of stage1 scramble)) stored
+    ∙ granted_answer stage1 scramble whole

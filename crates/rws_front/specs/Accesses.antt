@@ -23,6 +23,9 @@ abbrev pub granted_by : Option Account → List ℕ → List ℕ → Access
 granted_by None scramble answer = Denied
 granted_by (Some account) scramble answer = granted account.stored scramble answer
 
+-- the account of a user
+abbrev pub account_of : List Account → List ℕ → Option Account
+account_of accounts user = find (λ (account : Account). bytes_eq account.user user) accounts
+
 abbrev pub access_of : List Account → List ℕ → List ℕ → List ℕ → Access
-access_of accounts user scramble answer =
-    granted_by (find (λ (account : Account). bytes_eq account.user user) accounts) scramble answer
+access_of accounts user scramble answer = granted_by (account_of accounts user) scramble answer

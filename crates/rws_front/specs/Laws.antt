@@ -1,5 +1,5 @@
 -- What all steps of a front have in common.
-use Rattle.std.specs.Prelude.{◌≡◌, ℕ, zero, suc, ◌+◌, ◌*◌, ◌%◌, ◌<◌, List, [], ◌++◌, Contains, Option, Some, None}
+use Rattle.std.specs.Prelude.{◌≡◌, ℕ, zero, suc, ◌+◌, ◌*◌, ◌%◌, ◌<◌, List, [], ◌++◌, length, Contains, Option, Some, None}
 use Rattle.sha1.specs.Sha1.{sha1}
 use Rattle.rws_wire.specs.declared.close_reason.CloseReason.{CloseReason}
 use Rattle.rws_wire.specs.declared.fault.WireFault.{WireFault}
@@ -10,10 +10,13 @@ use Rattle.rws_wire.specs.Beginnings.{due, Begins, whole, other_number, too_larg
 use Rattle.rws_msgs.specs.declared.response.Response.{Response}
 use Rattle.rws_native.specs.declared.login.Login.{Login}
 use Rattle.rws_config.specs.declared.account.Account.{Account}
+use Rattle.rws_native.specs.Native.{answer_of}
+use Rattle.rws_front.specs.declared.access.Access.TheVariants.{Granted}
 use Rattle.rws_front.specs.declared.phase.Phase.{Phase}
 use Rattle.rws_front.specs.declared.phase.Phase.TheVariants.{Greets, AwaitsResponse, AwaitsAnswer, LogsIn, Commands, Ended}
 use Rattle.rws_front.specs.declared.step.FrontStep.{FrontStep}
 use Rattle.rws_front.specs.declared.step.FrontStep.TheVariants.{Idle, Send, LoggedIn, Command, End}
+use Rattle.rws_front.specs.Accesses.{account_of, access_of}
 use Rattle.rws_front.specs.Fronting.{Fronting}
 use Rattle.rws_front.specs.Connection.{fault_number, step_of}
 
@@ -75,6 +78,14 @@ ForLogin (Ended reason) P = Unit {0}
 abbrev pub LoginsAreProved : Type 0
 LoginsAreProved = (accounts : List Account) (front : Fronting)
     → ForLogin (step_of accounts front).1.phase (λ login. IsProved accounts login.user login.stage1)
+
+-- Who knows the first stage of the password of the user's account, 20 bytes, is granted the login by the answer that the plugin makes
+-- of it.
+abbrev pub AnswersAreGranted : Type 0
+AnswersAreGranted =
+    (accounts : List Account) (account : Account) (user stage1 scramble : List ℕ) → length stage1 ≡ 20
+    → account_of accounts user ≡ Some account → account.stored ≡ Some (sha1 stage1)
+    → access_of accounts user scramble (answer_of stage1 scramble) ≡ Granted (Some stage1)
 
 -- ---- pieces
 

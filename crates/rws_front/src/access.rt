@@ -1,10 +1,7 @@
 //! Who may log in.
-ghost use Rattle.std.specs.Prelude.{◌≡◌, ◌==◌, if◌then◌else◌, length, option_map};
-ghost use Rattle.std.specs.List.{find};
+ghost use Rattle.std.specs.Prelude.{◌≡◌};
 ghost use Rattle.std.specs.Option.{option_copied};
-ghost use Rattle.std.specs.Str.{bytes_eq};
-ghost use Rattle.rws_config.specs.declared.account.Account.{Account};
-ghost use Rattle.rws_front.specs.Accesses.{access_of, granted};
+ghost use Rattle.rws_front.specs.Accesses.{access_of, account_of, granted};
 
 use rws_config::Account;
 use rws_native::{Stage1, check};
@@ -20,7 +17,7 @@ pub(crate) enum Access {
 
 /// The account of a user.
 fn account_of<'a>(accounts: &'a [Account], user: &[u8]) -> Option<&'a Account>
-    ensures { option_copied result ≡ find (λ (account : Account). bytes_eq account.user user.now) accounts.now }
+    ensures { option_copied result ≡ account_of accounts.now user.now }
 {
     accounts
         .iter()

@@ -89,7 +89,7 @@ impl Front {
         self.stream.feed(piece)
     }
 
-    /// The next step. `Err` is want of memory: the front has then ended for this reason, and nobody has logged in.
+    /// The next step. `Err` is want of memory: the front has then ended for this reason, so that no login is left half done.
     pub fn next(&mut self, config: &Config) -> Result<FrontStep, AllocError>
         ensures ok { IfOk result (λ step. (step, self.new) ≡ step_of config.now.accounts self.old) }
         ensures err { OnErr result (IsSpent self.old self.new) }

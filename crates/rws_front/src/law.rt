@@ -1,5 +1,5 @@
 //! Laws on the steps of a front. The functions compute nothing: their contracts are the theorems.
-ghost use Rattle.rws_front.specs.Laws.{ErrorsAreNumbered, LoginsAreProved, StepsAreKept, StepsAreMoves};
+ghost use Rattle.rws_front.specs.Laws.{AnswersAreGranted, ErrorsAreNumbered, LoginsAreProved, StepsAreKept, StepsAreMoves};
 
 /// Each step is one of those of a connection, in their order: one greeting, at most one question for another answer, one login
 /// directly behind its OK, and commands behind it; an end is for good.
@@ -11,6 +11,11 @@ pub fn steps_are_moves()
 /// there is none.
 pub fn logins_are_proved()
     ensures { LoginsAreProved }
+{}
+
+/// Who knows the password of the user's account is granted the login, by the answer that the plugin makes of it.
+pub fn answers_are_granted()
+    ensures { AnswersAreGranted }
 {}
 
 /// A step that isn't `Idle` is the same when more bytes come, which are then held behind those that were: so the steps are the same

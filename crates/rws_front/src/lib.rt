@@ -13,7 +13,10 @@ mod response;
 mod step;
 
 pub use front::Front;
-pub use law::{errors_are_numbered, logins_are_proved, pieces_change_nothing, steps_are_moves};
+pub use law::{
+    answers_are_granted, errors_are_numbered, logins_are_proved, pieces_change_nothing,
+    steps_are_moves,
+};
 pub use rws_native::Login;
 pub use step::FrontStep;
 
