@@ -34,6 +34,13 @@ kept Rests = Ready []
 kept (Awaits e unread) = Awaiting (awaited_of e) unread
 kept (IsLost cause) = Lost cause []
 
+-- a command may be sent: the login is done, and nothing is awaited
+abbrev pub IsReady : Linking → Type 0
+IsReady (Ready unread) = Unit {0}
+IsReady (Opening handshake unread) = ⊥
+IsReady (Awaiting awaited unread) = ⊥
+IsReady (Lost cause unread) = ⊥
+
 -- the link that stands for a state takes a step of the state
 abbrev pub Takes : Step → LinkStep → Linking → Type 0
 Takes step answer new = (answer ≡ step.answer) × (new ≡ kept step.after)

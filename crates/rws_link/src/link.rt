@@ -6,7 +6,7 @@ ghost use Rattle.rws_wire.specs.Packets.{spelling};
 ghost use Rattle.rws_link.specs.declared.handshake.Handshake.TheVariants.{Greeting as AwaitsGreeting};
 ghost use Rattle.rws_link.specs.Handshake.{due, reaction};
 ghost use Rattle.rws_link.specs.Stepping.{Exchange, LinkState, LogsIn, Rests, Awaits, fed, opened, readied, reacted, replied, sent, settled, step, is_new, is_some_byte, lost};
-ghost use Rattle.rws_link.specs.Linking.{Arrives, CameWhole, IsRead, Opening, Ready, Awaiting, Takes, awaited_of, kept, nothing_came, taken};
+ghost use Rattle.rws_link.specs.Linking.{Arrives, CameWhole, IsRead, IsReady, Opening, Ready, Awaiting, Takes, awaited_of, kept, nothing_came, taken};
 
 use crate::handshake::{Handshake, Reaction};
 use crate::phase::{Awaited, Phase};
@@ -101,7 +101,7 @@ impl Link {
 
     /// Whether a command may be sent: the login is done, and nothing is awaited.
     pub fn is_ready(&self) -> bool
-        ensures { (link : LinkState) → self.now ≡ kept link → (result ≡ true) ↔ (link ≡ Rests) }
+        ensures { (result ≡ true) ↔ IsReady self.now }
     {
         match self.phase {
             Phase::Ready => true,
@@ -117,8 +117,8 @@ impl Link {
         kind: Option<Kind>,
         out: &mut Vec<u8>,
     ) -> Result<(), AllocError>
-        requires { self.old ≡ kept Rests }
-        ensures ok { OnOk result (self.new ≡ kept (sent payload.now kind)) }
+        requires { IsReady self.old }
+        ensures ok { self.old ≡ kept Rests → OnOk result (self.new ≡ kept (sent payload.now kind)) }
         ensures out { OnOk result (out.new.items ≡ out.old.items ++ spelling 0 payload.now) }
         ensures err { OnErr result (self.new ≡ self.old) }
         ensures out_err { OnErr result (out.new.items ≡ out.old.items) }

@@ -8,7 +8,7 @@ pub returns-then-awaits_greeting : goal.returns-then-awaits_greeting
 returns-then-awaits_greeting c = λ link is.
     let held : List ℕ = c.self.inside.stream.held in
     let view : Opening c.in-Opening.handshake (taken (due c.in-Opening.handshake) c.in-Opening.came ++ held) ≡ c.args.self.now =
-        rw c.in-Opening.is at c.self.view_is
+    rw c.in-Opening.is at c.self.view_is
     in
     let awaits : awaits_greeting c.in-Opening.handshake ≡ true = cc (c.if-awaits_greeting.ensures) in
     let known = new_by _ _ c.in-Opening.came held link awaits (view ∙ is) in
