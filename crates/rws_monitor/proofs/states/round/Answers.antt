@@ -11,9 +11,10 @@ pub returns-clause-master : goal.returns-clause-master
 returns-clause-master c =
     let chosen : c.primary-primary.result ≡ primary_of (counted c.args.probes.now c.args.maintenance) c.args.old.now.primary =
     c.primary-primary.ensures ∙ ap (λ (probes : List (Option Probe)). primary_of probes c.args.old.now.primary) c.counted-counted.ensures in
-    rw (c.seen.ensures) (λ server.
-        (master_primary c.args.probes.now c.args.maintenance c.primary-primary.result c.kept_id-primary_id.result server,
-        primary_master c.args.probes.now c.args.maintenance c.args.old.now.primary c.primary-primary.result c.kept_id-primary_id.result server chosen))
+    rw (c.seen.ensures) (λ server. (
+      master_primary c.args.probes.now c.args.maintenance c.primary-primary.result c.kept_id-primary_id.result server,
+      primary_master c.args.probes.now c.args.maintenance c.args.old.now.primary c.primary-primary.result c.kept_id-primary_id.result server chosen,
+    ))
 
 pub returns-clause-one_master : goal.returns-clause-one_master
 returns-clause-one_master c = λ a b first second. let e = sym ((returns-clause-master c a).0 first) ∙ (returns-clause-master c b).0 second in cc
