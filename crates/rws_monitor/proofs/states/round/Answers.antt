@@ -1,9 +1,6 @@
-use Rattle.std.proofs.Common.{◌≡◌, ℕ, List, Option, Some, None, sym, ap, ◌∙◌, subst, map}
-use Rattle.std.specs.List.{range_with_len}
+use Rattle.std.proofs.Common.{◌≡◌, List, Option, sym, ap, ◌∙◌}
 use Rattle.rws_monitor.specs.declared.probe.Probe.{Probe}
-use Rattle.rws_monitor.specs.declared.states.States.{States}
-use Rattle.rws_monitor.specs.Rounds.{states_with, round_of, counted, primary_of}
-use Rattle.rws_monitor.specs.Shown.{IsMaster, IsOutOfService, ArePositionsProbed}
+use Rattle.rws_monitor.specs.Rounds.{counted, primary_of}
 use Rattle.rws_monitor.proofs.RoundLemmas.{out_of_service, positions_probed, master_primary, primary_master}
 use Rattle.rws_monitor.proofs.states.round.Goals as goal
 
