@@ -1,10 +1,13 @@
 //! Two of three passes record 199 commits each in two threads, and read after each: nothing that one of them reads goes
 //! back. Then both are joined into the first pass, which finds all commits.
-ghost use Rattle.std.specs.Prelude.{◌≡◌, ◌<◌};
+ghost use Rattle.std.specs.Prelude.{◌≡◌, ◌<◌, IfOk};
+ghost use Rattle.rws_cell.specs.Views.{parts};
+ghost use Rattle.rws_cell.specs.Passes.{AllOf};
 
-use crate::{Pass, PoolCell};
+use crate::{Pass, PoolCell, each_entry_has_its_pass};
 use rws_gtid::Gtid;
 use rws_pool::{PoolWords, Round, Seen, State};
+use std::alloc::{AllocError, Global};
 use std::sync::Wait;
 use std::test::Fail;
 use std::thread::{Threads, join};
@@ -22,6 +25,19 @@ fn has_not_fallen(before: &PoolWords, now: &PoolWords) -> bool {
     let mut servers = before.servers.iter().zip(&now.servers);
     before.last.sequence <= now.last.sequence
         && servers.all(|(old, new)| old.position <= new.position)
+}
+
+// Two passes that call in turn. Once both are one, its parts made every entry of the history.
+fn one_after_two<R: Wait>(rt: &R, alloc: Global) -> Result<Pass, AllocError>
+    ensures { IfOk result (λ pass. AllOf (parts pass.view) pass.view.seen) }
+{
+    let (cell, mut first) = PoolCell::new(alloc, 0)?;
+    let mut second = cell.split(rt, &mut first);
+    cell.observe(rt, &mut second, &ALL_SLAVES);
+    cell.route(rt, &mut first);
+    cell.join(rt, &mut first, second);
+    each_entry_has_its_pass();
+    Ok(first)
 }
 
 // Records commits of one server and reads after each. Whether nothing fell, and its own commits were there.
@@ -74,6 +90,13 @@ fn two<R: Threads + Wait + Sync>(
     );
     cell.join(rt, &mut one, other);
     (one, steady && steady_too)
+}
+
+#[test]
+fn parts_made_every_entry(rt: HostRuntime) -> Result<(), Fail> {
+    let pass = one_after_two(&rt, rt.alloc())?;
+    let _ = pass;
+    Ok(())
 }
 
 #[test]

@@ -1,5 +1,5 @@
 -- What holds of every round.
-use Rattle.std.proofs.Common.{◌≡◌, ◌≢◌, ◌⊎◌, ◌<◌, ◌≤◌, ℕ, zero, suc, ◌∷◌, [], Bool, true, false, true≢false, cond, ◌&&◌, List, Option, Some, None, map, length, get_or, refl, sym, ap, ◌∙◌, subst, inl, inr, IsTrue, arith}
+use Rattle.std.proofs.Common.{◌≡◌, ◌⊎◌, ◌<◌, ℕ, zero, suc, ◌∷◌, [], Bool, true, false, true≢false, cond, ◌&&◌, List, Option, Some, None, map, length, refl, sym, ap, ◌∙◌, subst, inl, inr, IsTrue, arith}
 use Rattle.std.specs.Prelude.{slice_index_or}
 use Rattle.std.specs.List.{range_with_len}
 use Rattle.std.specs.Option.{option_map}
@@ -7,13 +7,11 @@ use Rattle.std.specs.List.{position}
 use Rattle.std.proofs.lemmas.Bool.{eqb-true, eq-eqb}
 use Rattle.std.proofs.lemmas.List.Quantifiers.{position-Some}
 use Rattle.std.proofs.lemmas.List.FromFn.{get_or-map-range_with_len, length-map-range_with_len}
-use Rattle.rws_pool.specs.declared.words.State.{State}
 use Rattle.rws_pool.specs.declared.words.State.TheVariants as state
 use Rattle.rws_pool.specs.declared.words.Seen.{Seen}
 use Rattle.rws_monitor.specs.declared.probe.Probe.{Probe}
 use Rattle.rws_monitor.specs.declared.probe.Probe.TheVariants.{Down, Found}
 use Rattle.rws_monitor.specs.declared.probe.Source.{Source}
-use Rattle.rws_monitor.specs.declared.states.States.{States}
 use Rattle.rws_monitor.specs.Rounds.{is_in, counted_at, counted, is_root, is_root_at, leads, primary_of, follows, role, is_at, seen_in, seen_at, states_with}
 use Rattle.rws_monitor.specs.Shown.{shown, IsMaster, IsOutOfService, Tells, ArePositionsProbed}
 

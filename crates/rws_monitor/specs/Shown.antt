@@ -1,7 +1,6 @@
 -- What a round shows of each server, and what holds of it.
 use Rattle.std.specs.Prelude.{◌≡◌, ◌⊎◌, ℕ, List, Option, Some, None, slice_index_or}
 use Rattle.std.specs.Option.{option_map}
-use Rattle.rws_pool.specs.declared.words.State.{State}
 use Rattle.rws_pool.specs.declared.words.State.TheVariants.{Master, Maintenance}
 use Rattle.rws_pool.specs.declared.words.Seen.{Seen}
 use Rattle.rws_monitor.specs.declared.probe.Probe.{Probe}

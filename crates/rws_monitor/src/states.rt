@@ -121,10 +121,12 @@ fn names(server_id: u32, probe: Option<Probe>) -> bool
     ensures { result ≡ names server_id probe }
 {
     match probe {
-        Some(Probe::Found {
-            source: Some(source),
-            ..
-        }) => source.primary_id == server_id,
+        Some(
+            Probe::Found {
+                source: Some(source),
+                ..
+            },
+        ) => source.primary_id == server_id,
         _ => false,
     }
 }
@@ -199,7 +201,12 @@ fn seen_at(
     ensures { result ≡ seen_at probes.now maintenance primary primary_id server }
 {
     let out = is_in(maintenance, server);
-    seen_in(out, is_at(primary, server), primary_id, probes[usize::from(server)])
+    seen_in(
+        out,
+        is_at(primary, server),
+        primary_id,
+        probes[usize::from(server)],
+    )
 }
 
 /// Whether the primary is the server at this index.
@@ -228,7 +235,9 @@ fn seen_in(out: bool, is_primary: bool, primary_id: u32, probe: Option<Probe>) -
             position: 0,
         }),
         Probe::Found {
-            position, source, ..
+            position,
+            source,
+            ..
         } => Some(Seen {
             state: role(is_primary, primary_id, source),
             position,
