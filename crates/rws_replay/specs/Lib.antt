@@ -4,3 +4,4 @@ pub mod LogView
 pub mod Sending
 -- a replay of it
 pub mod Replays
+pub mod Runs

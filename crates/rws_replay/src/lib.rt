@@ -3,11 +3,13 @@
 #![tactic(auto)]
 
 mod fault;
+mod law;
 mod log;
 mod replayer;
 #[cfg(test)]
 mod tests;
 
 pub use fault::{Attempts, Mismatch, SentFault};
+pub use law::replays_are_whole;
 pub use log::ReplayLog;
 pub use replayer::Replayer;
