@@ -1,13 +1,11 @@
-// A library with one function.
+//! Whether a read may be sent to a server that was chosen for it: whether that server has the commits that the read has to see.
+//!
+//! Three calls, each of which says what comes next: `begin` when the server is chosen, `after_wait` and `after_probe` when the
+//! server has answered the statement that was put before the read.
 #![tactic(auto)]
 
-ghost use Rattle.std.specs.Prelude.{◌≡◌};
-ghost use Rattle.rws_causal.specs.Echo.{echo_of};
+mod causal;
+#[cfg(test)]
+mod tests;
 
-// The `ensures` clause is the contract: what `echo` returns is `echo_of` of its argument, a definition
-// in `specs/Echo.antt`, which a caller's clause can cite too.
-pub fn echo(x: usize) -> usize
-    ensures { result ≡ echo_of x }
-{
-    x
-}
+pub use causal::{Causal, after_probe, after_wait, begin};

@@ -1,13 +1,15 @@
-// A library with one function.
+//! The log of a transaction, and its replay on another link: the commands from the one that opened it, each with the sum of its
+//! reply, and how far a replay of them has come.
 #![tactic(auto)]
 
-ghost use Rattle.std.specs.Prelude.{◌≡◌};
-ghost use Rattle.rws_replay.specs.Echo.{echo_of};
+mod fault;
+mod law;
+mod log;
+mod replayer;
+#[cfg(test)]
+mod tests;
 
-// The `ensures` clause is the contract: what `echo` returns is `echo_of` of its argument, a definition
-// in `specs/Echo.antt`, which a caller's clause can cite too.
-pub fn echo(x: usize) -> usize
-    ensures { result ≡ echo_of x }
-{
-    x
-}
+pub use fault::{Attempts, Mismatch, SentFault};
+pub use law::replays_are_whole;
+pub use log::ReplayLog;
+pub use replayer::Replayer;

@@ -1,6 +1,6 @@
 -- What single payloads of a text result set are read as ("Column Definition Packet" and "Text Resultset Row", in "Result Set
 -- Packets" of MariaDB's protocol documentation). A payload is the list of its bytes.
-use Rattle.std.specs.Prelude.{◌≡◌, ℕ, zero, suc, ◌==◌, Bool, List, [], ◌∷◌, Option, Some, None, Result, Ok, Err, is_ok, if◌then◌else◌}
+use Rattle.std.specs.Prelude.{ℕ, zero, suc, ◌==◌, Bool, List, [], ◌∷◌, Option, Some, None, Result, Ok, Err, is_ok, if◌then◌else◌}
 use Rattle.rws_wire.specs.Reading.{◌>>=◌}
 use Rattle.rws_msgs.specs.declared.fault.MsgFault.{MsgFault}
 use Rattle.rws_msgs.specs.declared.fault.MsgFault.TheVariants.{Short}

@@ -1,4 +1,4 @@
-use Rattle.std.proofs.Common.{◌≤◌, ◌∙◌, arith}
+use Rattle.std.proofs.Common.{◌∙◌, arith}
 use Rattle.rws_result.proofs.CellLemmas.{looks_on, looks_bad, looks_over}
 use Rattle.rws_result.proofs.cells.is_row.Goals as goal
 

@@ -1,4 +1,4 @@
-use Rattle.std.proofs.Common.{◌≡◌, ◌≤◌, ◌∙◌, sym, arith}
+use Rattle.std.proofs.Common.{◌∙◌, sym, arith}
 use Rattle.rws_result.proofs.CellLemmas.{copies_on, copies_bad, copies_all, copies_long}
 use Rattle.rws_result.proofs.cells.row_at.Goals as goal
 

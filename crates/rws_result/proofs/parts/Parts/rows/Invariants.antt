@@ -1,4 +1,4 @@
-use Rattle.std.proofs.Common.{◌≡◌, drop, length}
+use Rattle.std.proofs.Common.{◌≡◌, drop}
 use Rattle.rws_result.specs.Cells.{each, row_at}
 use Rattle.rws_result.proofs.CellLemmas.{behind}
 use Rattle.rws_result.proofs.parts.Parts.rows.Given as goal
