@@ -2,6 +2,7 @@
 
 ghost use Rattle.std.specs.Prelude.{◌≡◌, true, IfOk};
 ghost use Rattle.rws_msgs.specs.GreetingLayout.{greeting_at};
+ghost use Rattle.rws_msgs.specs.ResponseLayout.{has};
 ghost use Rattle.rws_msgs.specs.SwitchLayout.{plugin_asked, switch_at};
 ghost use Rattle.rws_msgs.specs.ErrLayout.{err_code};
 ghost use Rattle.rws_msgs.specs.OkLayout.{ok_status};
@@ -16,9 +17,6 @@ use rws_msgs::{Greeting, MsgFault, Response, Switch, err_code, ok_status};
 use rws_native::{Login, Stage1, relay};
 use rws_wire::{Payload, Text, frame};
 use std::alloc::{AllocError, Global};
-
-/// What a server has to offer in its greeting.
-const NEEDED_OF_SERVERS: u32 = PROTOCOL_41 | SECURE_CONNECTION | PLUGIN_AUTH | SESSION_TRACK;
 
 /// The one authentication plugin that is spoken.
 const NATIVE_PLUGIN: &[u8] = b"mysql_native_password";
@@ -150,11 +148,22 @@ fn answered(
     })
 }
 
+/// Whether the capabilities have this one.
+#[tactic(auto, unfolding(rws_msgs::specs::ResponseLayout::has))]
+fn has(capabilities: u32, bit: u32) -> bool
+    ensures { result ≡ has capabilities bit }
+{
+    capabilities & bit != 0
+}
+
 /// Whether a server with these capabilities has what a link stands on.
 fn is_served(capabilities: u32) -> bool
     ensures { result ≡ is_served capabilities }
 {
-    capabilities & NEEDED_OF_SERVERS == NEEDED_OF_SERVERS
+    has(capabilities, PROTOCOL_41)
+        && has(capabilities, SECURE_CONNECTION)
+        && has(capabilities, PLUGIN_AUTH)
+        && has(capabilities, SESSION_TRACK)
 }
 
 /// The answer to a greeting.
