@@ -66,8 +66,8 @@ impl Handshake {
         }
     }
 
-    /// What the server's next payload leads to. It takes memory where it is to be answered, and where it is a greeting or a switch
-    /// at all.
+    /// What the server's next payload leads to. Greetings, switches and what they are answered with take memory, nothing
+    /// else does.
     #[tactic(auto, unfolding(crate::specs::Handshake::reaction))]
     pub(crate) fn react(&self, alloc: Global, payload: &Payload) -> Result<Reaction, AllocError>
         ensures { IfOk result (λ found. found ≡ reaction self.now payload.now.bytes payload.now.next) }
@@ -105,16 +105,6 @@ fn flags_of(login: &Login) -> u32
     SENT_TO_SERVERS | login.flags & KEPT_FOR_LINKS | named
 }
 
-/// A name that is there or not, copied.
-fn copied(name: &Option<Text>) -> Result<Option<Text>, AllocError>
-    ensures { IfOk result (λ copy. copy ≡ name.now) }
-{
-    match name {
-        Some(text) => Ok(Some(text.clone()?)),
-        None => Ok(None),
-    }
-}
-
 /// The response to a greeting with this scramble.
 #[tactic(auto, unfolding(crate::specs::Handshake::response_of))]
 fn response_of(alloc: Global, login: &Login, scramble: &[u8; 20]) -> Result<Response, AllocError>
@@ -125,7 +115,7 @@ fn response_of(alloc: Global, login: &Login, scramble: &[u8; 20]) -> Result<Resp
         charset: login.charset,
         user: login.user.clone()?,
         answer: proof_over(alloc, &login.stage1, scramble)?,
-        database: copied(&login.database)?,
+        database: login.database.clone()?,
         plugin: Some(Text::from_slice(alloc, NATIVE_PLUGIN)?),
     })
 }
