@@ -3,6 +3,8 @@ pub mod StepLemmas
 pub mod EntryLemmas
 -- the law that events determine the run
 pub mod OneRunLemmas
+-- want of memory ends a session
+pub mod WantLemmas
 -- runs over given events, computed
 pub mod WorkedRuns
 -- the laws on the records in a run

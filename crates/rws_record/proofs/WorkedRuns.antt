@@ -2,7 +2,7 @@
 -- rules, or by a model that shares nothing with this one. Bytes are written as in a trace.
 use Rattle.std.proofs.Common.{◌≡◌, ℕ, suc, zero, ◌+◌, ◌-◌, ◌*◌, Bool, true, false, List, [], ◌∷◌, ◌++◌, refl, sym, ap, ◌∙◌, append_assoc, append-nil, subst, Option, Some, None, codes}
 use Rattle.std.specs.Prelude.{nat_lt, ◌&&◌, if◌then◌else◌}
-use Rattle.rws_wire.specs.declared.close_reason.CloseReason.TheVariants.{Quit, OutOfOrder, ResultCut, OutcomeUnknown, SessionState}
+use Rattle.rws_wire.specs.declared.close_reason.CloseReason.TheVariants.{Quit, OutOfOrder, ResultCut, OutcomeUnknown, SessionState, Memory}
 use Rattle.rws_wire.specs.declared.drop_cause.DropCause.TheVariants.{BadWire, BadReply, Unasked, End as AtEnd}
 use Rattle.rws_wire.specs.Lenenc.{lenenc, lenenc_bytes}
 use Rattle.rws_wire.specs.Packets.{full_packet, spelling, number_behind}
@@ -19,9 +19,12 @@ use Rattle.rws_board.specs.declared.action.Action.TheVariants.{ToClient, ToLink,
 use Rattle.rws_board.specs.declared.event.Event.{Event}
 use Rattle.rws_board.specs.declared.event.Event.TheVariants.{Begin, ClientBytes, ClientGone, LinkBytes, LinkGone, End}
 use Rattle.rws_config.specs.BuiltIn.{built_in}
-use Rattle.rws_record.specs.Run.{Entry, IsRun, IsRunOver, next_entry, events_of, done_in}
-use Rattle.rws_record.specs.Run.Entry.{Came}
-use Rattle.rws_record.specs.Run.IsRun.{starts, came, goes_on}
+use Rattle.rws_record.specs.Item.Item.{Starves}
+use Rattle.rws_record.specs.Values.{is_starved}
+use Rattle.rws_record.specs.Record.{CanBeMade}
+use Rattle.rws_record.specs.Run.{Entry, IsRun, IsRunOver, hearer, record_of, next_entry, events_of, done_in}
+use Rattle.rws_record.specs.Run.Entry.{Came, Did}
+use Rattle.rws_record.specs.Run.IsRun.{starts, came, goes_on, starves}
 use Rattle.rws_record.proofs.EntryLemmas.{of_next_entry, same_events}
 
 -- The run over events, computed
@@ -104,6 +107,42 @@ does_in : (fuel : ℕ) {events : List Event} {actions : List Action} → is_sett
     → done_in (over fuel events []) ≡ actions → Does events actions
 does_in fuel {events} settles does =
     record { run = over fuel events []; legal = legal_over fuel events [] starts settles; does = does }
+
+-- Memory is wanting to a session, so many entries behind an event
+
+abbrev until : ℕ → List Event → Event → List Entry
+until steps before event = settled steps (Came event ∷ over 16 before [])
+
+abbrev wanting : ℕ → ℕ → Bool → List Event → Event → List Entry
+wanting steps session made before event = settled 16 (Did session (Starves made) ∷ until steps before event)
+
+module _ (steps session : ℕ) (made : Bool) (before : List Event) (event : Event) (after : List Event) (actions : List Action)
+    (settles : is_settled 16 before [] ≡ true) (hears : hearer (until steps before event) ≡ Some session)
+    (once : is_starved (record_of session (until steps before event)) ≡ false)
+    (can : CanBeMade made (record_of session (until steps before event)))
+    (settles_after : is_settled 16 after (wanting steps session made before event) ≡ true)
+    (does : done_in (over 16 after (wanting steps session made before event)) ≡ actions) where
+  start : IsRunOver built_in before (over 16 before [])
+  start = legal_over 16 before [] starts settles
+
+  now_legal : IsRun built_in (wanting steps session made before event)
+  now_legal =
+      settled_legal 16 (Did session (Starves made) ∷ until steps before event)
+      (starves (settled_legal steps (Came event ∷ over 16 before []) (came start.legal start.rests)) hears once can)
+
+  heard : events_of (wanting steps session made before event) ≡ before ++ event ∷ []
+  heard =
+      settled_events 16 (Did session (Starves made) ∷ until steps before event)
+      ∙ settled_events steps (Came event ∷ over 16 before [])
+      ∙ ap (λ (list : List Event). list ++ event ∷ []) start.heard
+
+  wants_in : Does ((before ++ event ∷ []) ++ after) actions
+  wants_in = record {
+    run = over 16 after (wanting steps session made before event);
+    legal = subst (λ (list : List Event). IsRunOver built_in (list ++ after) (over 16 after (wanting steps session made before event))) heard
+        (legal_over 16 after (wanting steps session made before event) now_legal settles_after);
+    does = does;
+  }
 
 -- Events and actions with bytes as a trace writes them
 
@@ -350,3 +389,58 @@ no_such_server : Does
     (to_link 1 (codes "020000000378") ∷ [])
 unfolding lenenc lenenc_bytes full_packet spelling number_behind payload_behind first_payload eof_at err_at err_code err_bytes bytes_at number_at fixed_at lenenc_at text_at text_bytes ended state_at texts_at ok_at ok_status texts_bytes ok_bytes prepare_ok_at eof_status prepared_counts column_count is_definition is_row progress
 no_such_server = does_in 16 refl refl
+
+-- Runs in which memory is wanting
+
+-- in place of what would have been sent: the client is told, and another session goes on
+want_for_a_command : Does
+    (Begin 1 0 ∷ Begin 2 1 ∷ from_client 1 (codes "020000000378") ∷ from_client 1 (codes "010000000e") ∷
+    from_client 2 (codes "010000000e") ∷ on_link 1 (codes "0700000100000002000000") ∷ End ∷ [])
+    (to_client 1 (codes "16000001ff0d042348593030316f7574206f66206d656d6f7279") ∷ Close 1 Memory ∷ Drop 1 AtEnd ∷
+    to_client 2 (codes "0700000100000002000000") ∷ [])
+unfolding lenenc lenenc_bytes full_packet spelling number_behind payload_behind first_payload eof_at err_at err_code err_bytes bytes_at number_at fixed_at lenenc_at text_at text_bytes ended state_at texts_at ok_at ok_status texts_bytes ok_bytes prepare_ok_at eof_status prepared_counts column_count is_definition is_row progress
+want_for_a_command =
+    wants_in 2 1 true (Begin 1 0 ∷ Begin 2 1 ∷ []) (from_client 1 (codes "020000000378"))
+    (from_client 1 (codes "010000000e") ∷ from_client 2 (codes "010000000e") ∷
+    on_link 1 (codes "0700000100000002000000") ∷ End ∷ []) _ refl refl refl tt refl refl
+
+-- for what the session heard
+want_for_bytes : Does
+    (Begin 1 0 ∷ from_client 1 (codes "02") ∷ End ∷ [])
+    (to_client 1 (codes "16000001ff0d042348593030316f7574206f66206d656d6f7279") ∷ Close 1 Memory ∷ Drop 1 AtEnd ∷ [])
+unfolding lenenc lenenc_bytes full_packet spelling number_behind payload_behind first_payload eof_at err_at err_code err_bytes bytes_at number_at fixed_at lenenc_at text_at text_bytes ended state_at texts_at ok_at ok_status texts_bytes ok_bytes prepare_ok_at eof_status prepared_counts column_count is_definition is_row progress
+want_for_bytes = wants_in 1 1 true (Begin 1 0 ∷ []) (from_client 1 (codes "02")) (End ∷ []) _ refl refl refl tt refl refl
+
+-- behind a payload of a reply: what was told stands
+want_in_a_reply : Does
+    (Begin 1 0 ∷ from_client 1 (codes "020000000378") ∷
+    on_link 1 (codes "010000010117000002036465660000000161000c2d000a000000fd0000000000") ∷ End ∷ [])
+    (to_link 1 (codes "020000000378") ∷ to_client 1 (codes "0100000101") ∷
+    to_client 1 (codes "16000001ff0d042348593030316f7574206f66206d656d6f7279") ∷ Close 1 Memory ∷ Drop 1 AtEnd ∷ [])
+unfolding lenenc lenenc_bytes full_packet spelling number_behind payload_behind first_payload eof_at err_at err_code err_bytes bytes_at number_at fixed_at lenenc_at text_at text_bytes ended state_at texts_at ok_at ok_status texts_bytes ok_bytes prepare_ok_at eof_status prepared_counts column_count is_definition is_row progress
+want_in_a_reply =
+    wants_in 3 1 true (Begin 1 0 ∷ from_client 1 (codes "020000000378") ∷ [])
+    (on_link 1 (codes "010000010117000002036465660000000161000c2d000a000000fd0000000000")) (End ∷ []) _ refl refl refl tt refl refl
+
+-- its link is lost: what is owed for that is owed no more, and no link is left
+want_at_a_loss : Does
+    (Begin 1 0 ∷ LinkGone 1 ∷ End ∷ [])
+    (to_client 1 (codes "16000001ff0d042348593030316f7574206f66206d656d6f7279") ∷ Close 1 Memory ∷ [])
+unfolding lenenc lenenc_bytes full_packet spelling number_behind payload_behind first_payload eof_at err_at err_code err_bytes bytes_at number_at fixed_at lenenc_at text_at text_bytes ended state_at texts_at ok_at ok_status texts_bytes ok_bytes prepare_ok_at eof_status prepared_counts column_count is_definition is_row progress
+want_at_a_loss = wants_in 1 1 true (Begin 1 0 ∷ []) (LinkGone 1) (End ∷ []) _ refl refl refl tt refl refl
+
+-- a session that was closed already gives up its link
+want_behind_a_close : Does
+    (Begin 1 0 ∷ from_client 1 (codes "0100000001") ∷ End ∷ [])
+    (Close 1 Quit ∷ Drop 1 AtEnd ∷ [])
+unfolding lenenc lenenc_bytes full_packet spelling number_behind payload_behind first_payload eof_at err_at err_code err_bytes bytes_at number_at fixed_at lenenc_at text_at text_bytes ended state_at texts_at ok_at ok_status texts_bytes ok_bytes prepare_ok_at eof_status prepared_counts column_count is_definition is_row progress
+want_behind_a_close = wants_in 3 1 true (Begin 1 0 ∷ []) (from_client 1 (codes "0100000001")) (End ∷ []) _ refl refl refl tt refl refl
+
+-- for the session itself: its client is told nothing
+want_for_a_session : Does
+    (Begin 1 0 ∷ Begin 2 0 ∷ from_client 1 (codes "010000000e") ∷ from_client 2 (codes "010000000e") ∷ End ∷ [])
+    (Close 1 Memory ∷ Drop 1 AtEnd ∷ to_client 2 (codes "0700000100000002000000") ∷ [])
+unfolding lenenc lenenc_bytes full_packet spelling number_behind payload_behind first_payload eof_at err_at err_code err_bytes bytes_at number_at fixed_at lenenc_at text_at text_bytes ended state_at texts_at ok_at ok_status texts_bytes ok_bytes prepare_ok_at eof_status prepared_counts column_count is_definition is_row progress
+want_for_a_session =
+    wants_in 1 1 false [] (Begin 1 0) (Begin 2 0 ∷ from_client 1 (codes "010000000e") ∷ from_client 2 (codes "010000000e") ∷ End ∷ [])
+    _ refl refl refl tt refl refl

@@ -68,3 +68,5 @@ pub data Item : Type 0 where
   Takes : Judged → (number : ℕ) → Item
   TakesFault : WireFault → Item
   Puts : Put → Item
+  -- memory was wanting, in place of what would have come next; or for the session itself, which then wasn't made
+  Starves : (made : Bool) → Item

@@ -16,9 +16,9 @@ use Rattle.rws_reply.specs.Tracking.{progress}
 use Rattle.rws_config.specs.declared.config.Config.{Config}
 use Rattle.rws_config.specs.declared.limits.TheConstants.{SERVER_PAYLOAD}
 use Rattle.rws_record.specs.declared.command.Command.{Command}
-use Rattle.rws_record.specs.declared.proxy_error.ProxyError.TheVariants.{PacketsOutOfOrder, CommandTooLarge}
+use Rattle.rws_record.specs.declared.proxy_error.ProxyError.TheVariants.{PacketsOutOfOrder, CommandTooLarge, OutOfMemory}
 use Rattle.rws_record.specs.Item.{Item, Part, Purpose, Judged, Put}
-use Rattle.rws_record.specs.Item.Item.{Began, ClientBytes, LinkBytes, ClientGone, LinkLost, Replies, Garbles, Strays, Takes, TakesFault, Puts}
+use Rattle.rws_record.specs.Item.Item.{Began, ClientBytes, LinkBytes, ClientGone, LinkLost, Replies, Garbles, Strays, Takes, TakesFault, Puts, Starves}
 use Rattle.rws_record.specs.Item.Judged.{Leaves, Pings, IsRefused, Serves}
 use Rattle.rws_record.specs.Item.Put.{Tells, Sends, Drops, Closes}
 use Rattle.rws_record.specs.Item.Tell.{Passes, Owns, Refuses}
@@ -140,7 +140,14 @@ after_part link part (Some e) number = after_purpose link part e.purpose number
     after_purpose : ℕ → Part → Purpose → ℕ → List Put
     after_purpose link part (Asks command) number = after_answer link command part part.progress number
 
--- the answer to what came or was taken up, from the record before it
+-- Where memory is wanting the session is closed, and its client told before in a packet of number 1, if the session was
+-- made. One that is over gives up the links that it has left.
+abbrev pub after_want : (over made : Bool) → (farewells : List Put) → List Put
+after_want true made farewells = farewells
+after_want false true farewells = Tells 1 (Refuses OutOfMemory) ∷ Closes reasons.Memory ∷ []
+after_want false false farewells = Closes reasons.Memory ∷ []
+
+-- the answer to what came, was taken up or was wanting, from the record before it
 abbrev pub response : Item → List Item → List Put
 response (Began link server) past = []
 response (ClientBytes bytes) past = []
@@ -152,6 +159,7 @@ response (Garbles link fault) past = Drops link BadWire ∷ []
 response (Strays link) past = Drops link Unasked ∷ []
 response (Takes judged number) past = after_command judged number
 response (TakesFault fault) past = after_fault fault
+response (Starves made) past = after_want (is_over past) made (farewells past)
 response (Puts put) past = []
 
 -- what follows directly on something that was given out

@@ -12,7 +12,7 @@ use Rattle.rws_config.specs.declared.config.Config.{Config}
 use Rattle.rws_config.specs.declared.limits.TheConstants.{SERVER_PAYLOAD}
 use Rattle.rws_record.specs.declared.command.Command.{Command}
 use Rattle.rws_record.specs.Item.{Item, Part, Purpose}
-use Rattle.rws_record.specs.Item.Item.{Began, ClientBytes, LinkBytes, ClientGone, LinkLost, Replies, Garbles, Takes, TakesFault, Puts}
+use Rattle.rws_record.specs.Item.Item.{Began, ClientBytes, LinkBytes, ClientGone, LinkLost, Replies, Garbles, Takes, TakesFault, Puts, Starves}
 use Rattle.rws_record.specs.Item.Judged.{Serves}
 use Rattle.rws_record.specs.Item.Put.{Tells, Sends, Drops, Closes}
 use Rattle.rws_record.specs.Item.Tell.{Passes}
@@ -182,3 +182,9 @@ is_over [] = false
 is_over (ClientGone ∷ past) = true
 is_over (Puts (Closes reason) ∷ past) = true
 is_over (_ ∷ past) = is_over past
+
+-- memory was wanting to the session
+abbrev pub is_starved : List Item → Bool
+is_starved [] = false
+is_starved (Starves made ∷ past) = true
+is_starved (_ ∷ past) = is_starved past
