@@ -29,7 +29,7 @@ use Rattle.rws_session.specs.declared.owing.Out.{Out}
 use Rattle.rws_session.specs.declared.owing.Out.TheVariants as outs
 use Rattle.rws_session.specs.State.{State, erased, awaited_of, state_of}
 use Rattle.rws_session.specs.Table.{at, owing, without_number}
-use Rattle.rws_session.specs.Kept.{Is, Kept}
+use Rattle.rws_session.specs.Kept.{Is, Kept, lasting, lasting_of}
 
 -- What is given out
 
@@ -170,6 +170,11 @@ Hears config (Some item) past true old new = (new.number ≡ old.number) × (new
 Hears config None past false old new = new ≡ old
 Hears config item past went old new = ⊥
 
+-- memory was wanting for an input: what lasts is that of the record in which it was heard
+abbrev pub HearsInPart : Option Item → List Item → Kept → Kept → Type 0
+HearsInPart (Some item) past old new = lasting new ≡ lasting_of old.number old.outs (item ∷ past)
+HearsInPart None past old new = ⊥
+
 -- the session went on from a record by steps of its own, and what they gave out is there
 pub record Goes (config : Config) (past : List Item) (old new : Kept) : Type 0 where
   pub reached : List Item
@@ -184,3 +189,11 @@ pub record Goes (config : Config) (past : List Item) (old new : Kept) : Type 0 w
 pub record Rests (config : Config) (past : List Item) (old new : Kept) : Type 0 where
   pub goes : Goes config past old new
   pub rests : next config goes.reached ≡ None
+
+-- or memory was wanting for a further step, and what lasts is there
+pub record Stops (config : Config) (past : List Item) (old new : Kept) : Type 0 where
+  pub reached : List Item
+  pub went_on : GoesOn config past reached
+  pub more : List Action
+  pub given : actions_of old.number reached ≡ actions_of old.number past ++ more
+  pub lasts : lasting new ≡ lasting_of old.number (old.outs ++ more) reached

@@ -64,8 +64,9 @@ impl Awaited {
 impl Link {
     /// Reads what comes next on the link. None where its bytes complete nothing: it is as it was.
     pub(crate) fn read(&mut self) -> Result<Option<Arrival>, AllocError>
-        ensures { (past : List Item) (number : ℕ) → self.old ≡ link_of past number → link_fault number past ≡ None
+        ensures ok { (past : List Item) (number : ℕ) → self.old ≡ link_of past number → link_fault number past ≡ None
             → IfOk result (λ found. Reads past number found self.new) }
+        ensures number { self.new.number ≡ self.old.number }
     {
         match self.awaited.take() {
             None => Ok(self.stray()),
@@ -85,9 +86,10 @@ impl Link {
 
     /// Reads what comes next of the reply that is awaited.
     fn read_reply(&mut self, awaited: Awaited) -> Result<Option<Arrival>, AllocError>
-        ensures { (past : List Item) (number : ℕ) (e : Exchange) → self.old ≡ record (link_of past number) { awaited = None }
+        ensures ok { (past : List Item) (number : ℕ) (e : Exchange) → self.old ≡ record (link_of past number) { awaited = None }
             → exchange number past ≡ Some e → awaited ≡ awaited_of e → link_fault number past ≡ None
             → IfOk result (λ found. Reads past number found self.new) }
+        ensures number { self.new.number ≡ self.old.number }
     {
         match self.stream.next_payload(awaited.next) {
             Ok(None) => {
@@ -108,6 +110,7 @@ impl Link {
         ensures part { (e : Exchange) → awaited ≡ awaited_of e → result ≡ arrival_of (part_of e payload next self.old.stream.held) }
         ensures rest { (e : Exchange) → awaited ≡ awaited_of e
             → self.new ≡ record self.old { awaited = option_map awaited_of (goes_on (part_of e payload next self.old.stream.held) (Some e)) } }
+        ensures number { self.new.number ≡ self.old.number }
     {
         let progress = awaited.take(payload.as_slice(), next);
         self.awaited = match progress {

@@ -2,7 +2,7 @@
 //!
 //! What is owed comes first. Where nothing is owed and the session isn't over, the pending command is sent, then what came on
 //! the links is read, and then the client's next command is taken up.
-ghost use Rattle.std.specs.Prelude.{◌≡◌, ◌∷◌, ◌++◌, ℕ, List, [], false, map, Some, None, IfOk, OnOk, MatchOption, ◌&&◌, is_some, is_none};
+ghost use Rattle.std.specs.Prelude.{◌≡◌, ◌∷◌, ◌++◌, ℕ, List, [], false, map, Some, None, IfOk, OnErr, OnOk, MatchOption, ◌&&◌, is_some, is_none};
 ghost use Rattle.rws_wire.specs.Deframing.{HandsOut};
 ghost use Rattle.rws_config.specs.declared.config.Config.{Config};
 ghost use Rattle.rws_record.specs.Item.{Item};
@@ -13,7 +13,7 @@ ghost use Rattle.rws_record.specs.Values.{is_over, links};
 ghost use Rattle.rws_record.specs.Rules.{after_fault, due_arrival, due_send, due_take, next, owed, unasked};
 ghost use Rattle.rws_session.specs.State.{erased, link_of};
 ghost use Rattle.rws_session.specs.Table.{AreDistinct, AreSound, ReadsFirst};
-ghost use Rattle.rws_session.specs.Kept.{Is};
+ghost use Rattle.rws_session.specs.Kept.{Holds, Is};
 ghost use Rattle.rws_session.specs.Steps.{SendsPending, Tries, due_put, owes, owes_for, owes_reply, sendable_by, takes};
 
 use crate::link::{Arrival, Awaited};
@@ -32,8 +32,9 @@ const OWN_STATUS: u16 = AUTOCOMMIT;
 impl Session {
     /// Makes the next step, and says whether there was one.
     pub(super) fn step(&mut self) -> Result<bool, AllocError>
-        ensures { (config : Config) (past : List Item) → Is config self.old past
+        ensures ok { (config : Config) (past : List Item) → Is config self.old past
             → IfOk result (λ went. Tries config (next config past) past went self.old self.new) }
+        ensures err { (config : Config) (past : List Item) → Is config self.old past → OnErr result (Holds self.old self.new) }
     {
         if self.pay()? {
             return Ok(true);
@@ -52,8 +53,9 @@ impl Session {
 
     /// Gives out what is owed first.
     fn pay(&mut self) -> Result<bool, AllocError>
-        ensures { (config : Config) (past : List Item) → Is config self.old past
+        ensures ok { (config : Config) (past : List Item) → Is config self.old past
             → IfOk result (λ went. Tries config (due_put (owed past)) past went self.old self.new) }
+        ensures err { OnErr result (Holds self.old self.new) }
     {
         match self.next_owed() {
             None => Ok(false),
@@ -75,8 +77,9 @@ impl Session {
 
     /// Sends the pending command, where it isn't sent yet.
     fn send(&mut self) -> Result<bool, AllocError>
-        ensures { (config : Config) (past : List Item) → Is config self.old past → owed past ≡ []
+        ensures ok { (config : Config) (past : List Item) → Is config self.old past → owed past ≡ []
             → IfOk result (λ went. Tries config (due_send past) past went self.old self.new) }
+        ensures err { OnErr result (Holds self.old self.new) }
     {
         match self.sendable() {
             None => Ok(false),
@@ -110,7 +113,8 @@ impl Session {
 
     /// Sends the pending command on a link.
     fn send_pending(&mut self, link: u64) -> Result<(), AllocError>
-        ensures { OnOk result (SendsPending link self.old.state.pending self.old self.new) }
+        ensures ok { OnOk result (SendsPending link self.old.state.pending self.old self.new) }
+        ensures err { OnErr result (Holds self.old self.new) }
     {
         let Some(command) = &self.pending else {
             return Ok(());
@@ -129,8 +133,9 @@ impl Session {
 
     /// Reads what came on the links, in order of number, up to the first thing that is whole.
     fn read_links(&mut self) -> Result<bool, AllocError>
-        ensures { (config : Config) (past : List Item) → Is config self.old past → owed past ≡ []
+        ensures ok { (config : Config) (past : List Item) → Is config self.old past → owed past ≡ [] → is_over past ≡ false
             → IfOk result (λ went. Tries config (due_arrival (links past) past) past went self.old self.new) }
+        ensures err { OnErr result (Holds self.old self.new) }
     {
         match self.next_arrival()? {
             None => Ok(false),
@@ -146,17 +151,19 @@ impl Session {
         ensures reads { (past : List Item) (numbers : List ℕ) → self.old.state.links ≡ map (link_of past) numbers → AreDistinct numbers
             → AreSound past numbers → IfOk result (λ found. ReadsFirst past numbers found self.new.state.links) }
         ensures rest { self.new ≡ record self.old { state = record self.old.state { links = self.new.state.links } } }
+        ensures holds { Holds self.old self.new }
     {
         self.links.read()
     }
 
     /// Decides what follows on what a link's bytes completed.
     fn take_arrival(&mut self, link: u64, arrival: Arrival) -> Result<(), AllocError>
-        ensures { OnOk result (self.new ≡ record self.old {
+        ensures ok { OnOk result (self.new ≡ record self.old {
           state = record self.old.state {
             owed = owes_for link arrival self.old.state.reply_number ++ self.old.state.owed;
           };
         }) }
+        ensures err { OnErr result (Holds self.old self.new) }
     {
         match arrival {
             Arrival::Stray => self.owe(Out::Drop {
@@ -184,11 +191,12 @@ impl Session {
         progress: Option<Progress>,
         behind: bool,
     ) -> Result<(), AllocError>
-        ensures { OnOk result (self.new ≡ record self.old {
+        ensures ok { OnOk result (self.new ≡ record self.old {
           state = record self.old.state {
             owed = owes_reply link payload progress behind self.old.state.reply_number ++ self.old.state.owed;
           };
         }) }
+        ensures err { OnErr result (Holds self.old self.new) }
     {
         let number = self.reply_number;
         match progress {
@@ -216,7 +224,8 @@ impl Session {
 
     /// A byte behind a whole reply costs the link.
     fn owe_unasked(&mut self, link: u64, behind: bool) -> Result<(), AllocError>
-        ensures { OnOk result (self.new ≡ record self.old { state = owes (unasked link behind) self.old.state }) }
+        ensures ok { OnOk result (self.new ≡ record self.old { state = owes (unasked link behind) self.old.state }) }
+        ensures err { OnErr result (Holds self.old self.new) }
     {
         if behind {
             return self.owe(Out::Drop {
@@ -229,8 +238,9 @@ impl Session {
 
     /// Takes up the client's next command, or the fault of its packets, where none is pending.
     fn take_up(&mut self) -> Result<bool, AllocError>
-        ensures { (config : Config) (past : List Item) → Is config self.old past → owed past ≡ [] → is_over past ≡ false
+        ensures ok { (config : Config) (past : List Item) → Is config self.old past → owed past ≡ [] → is_over past ≡ false
             → IfOk result (λ went. Tries config (due_take config past) past went self.old self.new) }
+        ensures err { OnErr result (Holds self.old self.new) }
     {
         if self.is_busy() {
             return Ok(false);
@@ -266,7 +276,8 @@ impl Session {
 
     /// Takes up a command, whose reply begins with the packet number `number`.
     fn take(&mut self, payload: Text, number: u8) -> Result<(), AllocError>
-        ensures { OnOk result (self.new ≡ record self.old { state = takes (judged payload number) number self.old.state }) }
+        ensures ok { OnOk result (self.new ≡ record self.old { state = takes (judged payload number) number self.old.state }) }
+        ensures err { OnErr result (Holds self.old self.new) }
     {
         self.begin_reply(number);
         match Request::of(payload.as_slice()) {
@@ -322,7 +333,8 @@ impl Session {
 
     /// The client's packets can't be read on.
     fn take_fault(&mut self, fault: WireFault) -> Result<(), AllocError>
-        ensures { OnOk result (self.new ≡ record self.old { state = owes (after_fault fault) self.old.state }) }
+        ensures ok { OnOk result (self.new ≡ record self.old { state = owes (after_fault fault) self.old.state }) }
+        ensures err { OnErr result (Holds self.old self.new) }
     {
         match fault {
             WireFault::OutOfOrder { want, got } => self.break_off(
@@ -340,7 +352,8 @@ impl Session {
 
     /// The client is told an error in a packet of number 1, and the session closed.
     fn break_off(&mut self, error: ProxyError, reason: CloseReason) -> Result<(), AllocError>
-        ensures { OnOk result (self.new ≡ record self.old { state = owes (Tells 1 (Refuses error) ∷ Closes reason ∷ []) self.old.state }) }
+        ensures ok { OnOk result (self.new ≡ record self.old { state = owes (Tells 1 (Refuses error) ∷ Closes reason ∷ []) self.old.state }) }
+        ensures err { OnErr result (Holds self.old self.new) }
     {
         self.owe(Out::Close { reason })?;
         self.owe(Out::Refuse { number: 1, error })
