@@ -77,7 +77,7 @@ rested config past legal e n =
       sent = λ command p.
           let on = sent_where past command one.0 (sent_on past) p one.2 one.1 refl sound.sent all.0 ∙ one.2 in
           let its = rests_awaiting config past legal e n command one.0 p on in
-          (one.0, its.0, one.2, on, its.1);
+          (one.0, its.0, one.2, on, its.1, its.2);
       client = λ p.
           let none : taking (first_payload config.command_bytes 0 (held config past)) ≡ None = rw p at behind.1 in
           no_take (first_payload config.command_bytes 0 (held config past)) none;

@@ -14,7 +14,7 @@ pub data Purpose : Type 0 where
   -- the client asked for it
   Asks : Command → Purpose
 
--- a payload of a reply, where it came
+-- a payload of a reply, as the server sent it
 pub record Part : Type 0 where
   pub payload : List ℕ
   -- the number that the packet behind it is to have
@@ -26,7 +26,8 @@ pub record Part : Type 0 where
 
 -- what the client is told
 pub data Tell : Type 0 where
-  -- a payload of the reply that this link gives to the command; the last one with how the reply ended
+  -- a payload of the reply that this link gives to the command, in the client's form; the last one with how the server's
+  -- reply ended
   Passes : (link : ℕ) → Command → (payload : List ℕ) → Option Outcome → Tell
   -- the proxy's own OK
   Owns : (status : ℕ) → Tell

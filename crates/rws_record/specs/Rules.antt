@@ -24,7 +24,7 @@ use Rattle.rws_record.specs.Item.Put.{Tells, Sends, Drops, Closes}
 use Rattle.rws_record.specs.Item.Tell.{Passes, Owns, Refuses}
 use Rattle.rws_record.specs.Item.Purpose.{Asks}
 use Rattle.rws_record.specs.Judging.{judged}
-use Rattle.rws_record.specs.Values.{held, links, contains, kept_on, Exchange, exchange, kind_of, link_held, pending, sent_on, told_from, reply_number, is_over}
+use Rattle.rws_record.specs.Values.{held, links, contains, kept_on, Exchange, exchange, kind_of, form_of, link_held, pending, sent_on, told_from, reply_number, is_over}
 
 abbrev pub is_link : ℕ → Option ℕ → Bool
 is_link link (Some other) = other == link
@@ -125,20 +125,20 @@ abbrev pub unasked : ℕ → Bool → List Put
 unasked link true = Drops link Unasked ∷ []
 unasked link false = []
 
--- A payload of the reply to the client's command goes to the client; behind the last one a further byte costs the link.
--- A payload by which the reply is none costs the link too.
-abbrev pub after_answer : ℕ → Command → Part → Option Progress → (number : ℕ) → List Put
-after_answer link command part None number = Drops link BadReply ∷ []
-after_answer link command part (Some More) number = Tells number (Passes link command part.payload None) ∷ []
-after_answer link command part (Some (Ends outcome)) number =
-    Tells number (Passes link command part.payload (Some outcome)) ∷ unasked link part.behind
+-- A payload of the reply to the client's command goes to the client in its form; behind the last one a further byte costs
+-- the link. A payload by which the reply is none costs the link too.
+abbrev pub after_answer : ℕ → Command → (form : List ℕ) → Option Progress → (behind : Bool) → (number : ℕ) → List Put
+after_answer link command form None behind number = Drops link BadReply ∷ []
+after_answer link command form (Some More) behind number = Tells number (Passes link command form None) ∷ []
+after_answer link command form (Some (Ends outcome)) behind number =
+    Tells number (Passes link command form (Some outcome)) ∷ unasked link behind
 
 abbrev pub after_part : ℕ → Part → Option Exchange → (number : ℕ) → List Put
 after_part link part None number = []
-after_part link part (Some e) number = after_purpose link part e.purpose number
+after_part link part (Some e) number = after_purpose (form_of e part.payload) e.purpose
   where
-    after_purpose : ℕ → Part → Purpose → ℕ → List Put
-    after_purpose link part (Asks command) number = after_answer link command part part.progress number
+    after_purpose : List ℕ → Purpose → List Put
+    after_purpose form (Asks command) = after_answer link command form part.progress part.behind number
 
 -- Where memory is wanting the session is closed, and its client told before in a packet of number 1, if the session was
 -- made. One that is over gives up the links that it has left.

@@ -55,7 +55,7 @@ changed_at past number change after (link ∷ others) distinct same here =
 -- an item about one link leaves the others as they were
 other_link : (past : List Item) (number : ℕ) (found : Arrival) (link : ℕ) → (link == number) ≡ false
     → link_of (item_of number found ∷ past) link ≡ link_of past link
-other_link past number (arrivals.Reply payload next progress behind) link differ = rw (apart link number differ) refl
+other_link past number (arrivals.Reply payload form next progress behind) link differ = rw (apart link number differ) refl
 other_link past number (arrivals.Garbled fault) link differ = rw (apart link number differ) refl
 other_link past number arrivals.Stray link differ = refl
 
@@ -72,7 +72,7 @@ read_here past (number ∷ rest) link new others found are distinct sound reads 
     let behind : others ≡ map (link_of past) rest = cc in
     let there = others_same number (link_of past) (link_of (item_of number found ∷ past)) rest distinct.0 (other_link past number found) in
     subst (λ (n : ℕ). ReadsFirst past (number ∷ rest) (Some (n, found)) (new ∷ others)) (sym same)
-    (rw r.0 refl, rw (itself number) refl, both r.1 (behind ∙ there))
+    (rw r.0 refl, rw (itself number) refl, both r.1 (behind ∙ there), r.2)
 
 -- they complete nothing, and the links behind it are read
 pub read_behind : (past : List Item) (numbers : List ℕ) (link new : Link) (others behind : List Link)
@@ -94,7 +94,7 @@ read_behind past (number ∷ rest) link new others behind are distinct sound rea
     one r (Some found) there =
         let differ : (number == found.0) ≡ false = ne_eqb number found.0 (λ same.
         let has : contains number rest ≡ true = rw (← same) at there.1 in let not_there = distinct.0 in absurd cc) in
-        (rw r.0 there.0, rw differ there.1, both (r.1 ∙ sym (other_link past found.0 found.1 number differ)) there.2)
+        (rw r.0 there.0, rw differ there.1, both (r.1 ∙ sym (other_link past found.0 found.1 number differ)) there.2, there.3)
 
 -- a link of this number is there
 pub has_is : (past : List Item) (number : ℕ) (links : List ℕ)

@@ -1,6 +1,6 @@
 -- How the steps of a session change what it keeps.
 use Rattle.std.specs.List.{list_any}
-use Rattle.std.specs.Prelude.{◌≡◌, ◌==◌, ◌&&◌, ℕ, Bool, true, false, List, [], ◌∷◌, ◌++◌, map, Option, Some, None, is_some, is_none, if◌then◌else◌}
+use Rattle.std.specs.Prelude.{◌≡◌, ◌==◌, ◌&&◌, ℕ, Bool, true, false, List, [], ◌∷◌, ◌++◌, map, Option, Some, None, is_some, is_none, unwrap_or, if◌then◌else◌}
 use Rattle.rws_wire.specs.Packets.{spelling, number_behind}
 use Rattle.rws_wire.specs.declared.close_reason.CloseReason.{CloseReason}
 use Rattle.rws_wire.specs.declared.drop_cause.DropCause.{DropCause}
@@ -119,16 +119,17 @@ takes judgement number s = record s {
   owed = map erased (after_command judgement number) ++ s.owed;
 }
 
--- what follows on a payload of the pending command's reply
-abbrev pub owes_reply : ℕ → List ℕ → Option Progress → (behind : Bool) → (number : ℕ) → List (Option Out)
-owes_reply link payload None behind number = Some (outs.Drop link BadReply) ∷ []
-owes_reply link payload (Some More) behind number = Some (outs.Pass number link payload None) ∷ []
-owes_reply link payload (Some (Whole outcome)) behind number =
-    Some (outs.Pass number link payload (Some outcome)) ∷ map erased (unasked link behind)
+-- what follows on a payload of the pending command's reply, which is this in the client's form
+abbrev pub owes_reply : ℕ → (form : List ℕ) → Option Progress → (behind : Bool) → (number : ℕ) → List (Option Out)
+owes_reply link form None behind number = Some (outs.Drop link BadReply) ∷ []
+owes_reply link form (Some More) behind number = Some (outs.Pass number link form None) ∷ []
+owes_reply link form (Some (Whole outcome)) behind number =
+    Some (outs.Pass number link form (Some outcome)) ∷ map erased (unasked link behind)
 
 -- what follows on what a link's bytes complete
 abbrev pub owes_for : ℕ → Arrival → (number : ℕ) → List (Option Out)
-owes_for link (arrivals.Reply payload next progress behind) number = owes_reply link payload progress behind number
+owes_for link (arrivals.Reply payload form next progress behind) number =
+    owes_reply link (unwrap_or form payload) progress behind number
 owes_for link (arrivals.Garbled fault) number = Some (outs.Drop link BadWire) ∷ []
 owes_for link arrivals.Stray number = Some (outs.Drop link Unasked) ∷ []
 

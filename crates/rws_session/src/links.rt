@@ -96,12 +96,12 @@ impl LinkTable {
     }
 
     /// Reads the links in order of number, up to the first whose bytes complete something; which link it is, and what.
-    pub(crate) fn read(&mut self) -> Result<Option<(u64, Arrival)>, AllocError>
+    pub(crate) fn read(&mut self, alloc: Global) -> Result<Option<(u64, Arrival)>, AllocError>
         ensures ok { (past : List Item) (links : List ℕ) → self.old ≡ map (link_of past) links → AreDistinct links → AreSound past links
             → IfOk result (λ found. ReadsFirst past links found self.new) }
         ensures numbers { map number_of self.new ≡ map number_of self.old }
     {
-        read_first(self.links.as_mut_slice())
+        read_first(alloc, self.links.as_mut_slice())
     }
 }
 
@@ -138,16 +138,16 @@ fn ask_one(links: &mut [Link], number: u64, awaited: Awaited)
 }
 
 /// Reads links in their order, up to the first whose bytes complete something.
-fn read_first(links: &mut [Link]) -> Result<Option<(u64, Arrival)>, AllocError>
+fn read_first(alloc: Global, links: &mut [Link]) -> Result<Option<(u64, Arrival)>, AllocError>
     ensures ok { (past : List Item) (numbers : List ℕ) → links.old ≡ map (link_of past) numbers → AreDistinct numbers → AreSound past numbers
         → IfOk result (λ found. ReadsFirst past numbers found links.new) }
     ensures numbers { map number_of links.new ≡ map number_of links.old }
 {
     match links.split_first_mut() {
         None => Ok(None),
-        Some((link, others)) => match link.read()? {
+        Some((link, others)) => match link.read(alloc)? {
             Some(arrival) => Ok(Some((link.number, arrival))),
-            None => read_first(others),
+            None => read_first(alloc, others),
         },
     }
 }

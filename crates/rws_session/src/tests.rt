@@ -16,10 +16,22 @@ const RESULT: &[u8] =
 /// The proxy's own OK as packet 1.
 const PONG: &[u8] = b"\x07\0\0\x01\0\0\0\x02\0\0\0";
 
+/// An OK that names the GTID 0-1-7, and what the client gets for it.
+const TRACKED: &[u8] = b"\x1b\0\0\x01\0\x01\0\x02\x40\0\0\0\x12\0\x10\x09last_gtid\x050-1-7";
+
+const UNTRACKED: &[u8] = b"\x07\0\0\x01\0\x01\0\x02\0\0\0";
+
 /// Bytes of the client (`true`) and of its link, and what the client and the link get for them.
-const TURNS: [(bool, &[u8], &[u8], &[u8]); 5] = [
+const TURNS: [(bool, &[u8], &[u8], &[u8]); 7] = [
     (true, b"\x01\0\0\0\x0e\x02\0\0\0\x03", PONG, b""),
-    (true, b"x\x01\0\0\0\x0e", b"", b"\x02\0\0\0\x03x"),
+    (true, b"w", b"", b"\x02\0\0\0\x03w"),
+    (false, TRACKED, UNTRACKED, b""),
+    (
+        true,
+        b"\x02\0\0\0\x03x\x01\0\0\0\x0e",
+        b"",
+        b"\x02\0\0\0\x03x",
+    ),
     (false, b"\x01\0\0\x01", b"", b""),
     (false, b"\x01", b"\x01\0\0\x01\x01", b""),
     (true, b"\x01\0\0\0\x01", b"", b""),

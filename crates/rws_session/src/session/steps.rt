@@ -153,7 +153,7 @@ impl Session {
         ensures rest { self.new ≡ record self.old { state = record self.old.state { links = self.new.state.links } } }
         ensures holds { Holds self.old self.new }
     {
-        self.links.read()
+        self.links.read(self.alloc)
     }
 
     /// Decides what follows on what a link's bytes completed.
@@ -176,14 +176,15 @@ impl Session {
             }),
             Arrival::Reply {
                 payload,
+                form,
                 next: _,
                 progress,
                 behind,
-            } => self.take_reply(link, payload, progress, behind),
+            } => self.take_reply(link, form.unwrap_or(payload), progress, behind),
         }
     }
 
-    /// Decides what follows on a payload of the pending command's reply.
+    /// Decides what follows on a payload of the pending command's reply, in the client's form.
     fn take_reply(
         &mut self,
         link: u64,
