@@ -10,3 +10,5 @@ pub mod MirrorLemmas
 pub mod TryLemmas
 -- a whole turn
 pub mod TurnLemmas
+-- what it leaves
+pub mod BoundLemmas

@@ -40,7 +40,7 @@ returns-then-is_over c = λ run w event none_begun told_so.
     (λ past stands. c.in_ok-fetch_all.ensures.stands config past (subst (λ (k : Kept). Stands config k past) whole stands))
     c.args.input told_so s (ap (λ (k : Kept). k.outs) c.in_ok-fetch_all.ensures.all.1)
     (subst (λ (k : Kept). Turns config (heard c.args.input (record_of c.args.session run)) (record_of c.args.session run) seat k) (sym whole)
-    (c.in_ok-turn.ensures config (record_of c.args.session run) s.stands)) in
+    (c.in_ok-turn.ensures.turns config (record_of c.args.session run) s.stands)) in
     let sessions = c.get_mut.follows.lender after in
     forgets config c.args.self.now (record c.args.self.now { sessions = c.remove.new.self; outs = outs }) run event c.args.session seat after w s t
     (sym (c.is_over.ensures config (record_of c.args.session t.now) t.stands) ∙ c.if-is_over.true)
@@ -65,7 +65,7 @@ returns-else-is_over c = λ run w event none_begun told_so.
     (λ past stands. c.in_ok-fetch_all.ensures.stands config past (subst (λ (k : Kept). Stands config k past) whole stands))
     c.args.input told_so s (ap (λ (k : Kept). k.outs) c.in_ok-fetch_all.ensures.all.1)
     (subst (λ (k : Kept). Turns config (heard c.args.input (record_of c.args.session run)) (record_of c.args.session run) seat k) (sym whole)
-    (c.in_ok-turn.ensures config (record_of c.args.session run) s.stands)) in
+    (c.in_ok-turn.ensures.turns config (record_of c.args.session run) s.stands)) in
     let sessions = c.get_mut.follows.lender after in
     keeps config c.args.self.now (record c.args.self.now { sessions = sessions; outs = outs }) run event c.args.session seat after w s t
     (ap (λ (k : Kept). k.outs) c.in_ok-fetch_all.ensures.all.1)
