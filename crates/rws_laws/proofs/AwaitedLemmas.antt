@@ -1,5 +1,5 @@
 -- The reply to a command that was sent is awaited, until its end is passed on or the session is closed.
-use Rattle.std.proofs.Common.{◌≡◌, ℕ, Bool, true, false, List, [], ◌∷◌, ◌++◌, drop, refl, sym, ap, subst, ◌∙◌, inl, inr, Option, Some, None}
+use Rattle.std.proofs.Common.{◌≡◌, ℕ, ◌+◌, Bool, true, false, List, [], ◌∷◌, ◌++◌, drop, refl, sym, ap, subst, ◌∙◌, inl, inr, Option, Some, None}
 use Rattle.std.specs.Prelude.{◌⊎◌, ◌==◌, if◌then◌else◌}
 use Rattle.std.proofs.lemmas.Bool.{eq-eqb}
 use Rattle.rws_wire.specs.declared.drop_cause.DropCause.{DropCause}
@@ -11,17 +11,17 @@ use Rattle.rws_reply.specs.ClientForm.{client_reply}
 use Rattle.rws_config.specs.declared.config.Config.{Config}
 use Rattle.rws_record.specs.declared.command.Command.{Command}
 use Rattle.rws_record.specs.Item.{Item, Part, Tell, Put}
-use Rattle.rws_record.specs.Item.Item.{ClientBytes, LinkBytes, ClientGone, LinkLost, Replies, Garbles, Strays, TakesFault, Puts}
+use Rattle.rws_record.specs.Item.Item.{ClientBytes, LinkBytes, ClientGone, LinkLost, Replies, Garbles, Strays, TakesFault, Floods, Puts}
 use Rattle.rws_record.specs.Item.Purpose.{Asks}
 use Rattle.rws_record.specs.Item.Put.{Tells, Sends, Drops, Closes}
 use Rattle.rws_record.specs.Item.Tell.{Passes, Owns, Refuses}
 use Rattle.rws_record.specs.Values.{kept_on, Exchange, exchange, asked, with_part, goes_on_by, prepared_handle, form_of, pending, sent_on, reply_number, told, is_over, is_starved}
-use Rattle.rws_record.specs.Rules.{next, owed, after_loss, after_part, after_answer, part_of}
+use Rattle.rws_record.specs.Rules.{next, owed, after_loss, after_part, after_answer, part_of, flood_limit}
 use Rattle.rws_record.specs.Record.{IsRecord, IsInput}
 use Rattle.rws_record.specs.Record.IsRecord.{begins, steps, hears, starves}
 use Rattle.rws_record.proofs.StepLemmas.{Due, Step, of_next, rests_owing_nothing}
 use Rattle.rws_record.proofs.StepLemmas.Due.{replies, garbles, strays, takes, takes_fault}
-use Rattle.rws_record.proofs.StepLemmas.Step.{pays, sends, reads}
+use Rattle.rws_record.proofs.StepLemmas.Step.{pays, sends, floods, reads}
 use Rattle.rws_laws.specs.Causes.{IsCaused, came_on}
 use Rattle.rws_laws.proofs.CameLemmas.{sofar_came}
 use Rattle.rws_laws.proofs.Sound.{Caused, Sound, kept_there, same_some}
@@ -158,6 +158,8 @@ step_awaits : {config : Config} {past : List Item} {item : Item} → Step config
 step_awaits {config} {past} (pays {put = put} {others = others} o) sound awaiting =
     put_awaits config past sound awaiting put others o (subst (λ (list : List Put). Caused config list past) o sound.owes)
 step_awaits {past = past} (sends {link = to} {command = command} o n p s k c) sound awaiting = send_awaits past to command
+step_awaits {config} {past} (floods o n p above) sound awaiting =
+    still config past sound awaiting o n (Floods (flood_limit config + 1)) refl (λ link. refl)
 step_awaits {config} {past} (reads o n due) sound awaiting = due_awaits config past sound awaiting o n due
 
 legal_awaits : {config : Config} {past : List Item} → IsRecord config past → is_starved past ≡ false → Awaiting past

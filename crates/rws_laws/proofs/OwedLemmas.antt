@@ -27,8 +27,8 @@ use Rattle.rws_record.specs.Item.Tell.{Passes}
 use Rattle.rws_record.specs.Requests.{request_of}
 use Rattle.rws_record.specs.Judging.{judged_by, refusal_of}
 use Rattle.rws_record.specs.Values.{links, kept_on, Exchange, exchange, goes_on_by, prepared_handle, form_of, link_held, rest_of, pending, sent_on, reply_number, told, told_from, is_over}
-use Rattle.rws_record.specs.Rules.{is_link, after_loss, after_loss_by, loss_by, after_command, after_fault, after_answer, unasked, is_some_byte, part_of}
-use Rattle.rws_laws.specs.Causes.{Took, TookFault, IsPending, IsOfReply, IsPassed, came_on, lost}
+use Rattle.rws_record.specs.Rules.{is_link, after_loss, after_loss_by, loss_by, after_command, after_fault, after_flood, after_answer, unasked, is_some_byte, part_of}
+use Rattle.rws_laws.specs.Causes.{Took, TookFault, Flooded, IsPending, IsOfReply, IsPassed, came_on, lost}
 use Rattle.rws_laws.specs.Causes.Asked.{before}
 use Rattle.rws_laws.proofs.CameLemmas.{sofar_came}
 use Rattle.rws_laws.proofs.Sound.{Caused, Links, Sent, ToldBy, Telling, IsAsked, Asking, has_itself, is_that, is_not}
@@ -108,7 +108,10 @@ command_caused config payload number past requests.Unknown r taken = tells (payl
 pub fault_caused : (config : Config) (fault : WireFault) (past : List Item) → TookFault config fault past
     → Caused config (after_fault fault) past
 fault_caused config (faults.OutOfOrder want got) past taken = tells (want, got, taken, refl) (closes (past, refl, taken))
-fault_caused config (faults.TooLarge length) past taken = tells (length, taken, refl) (closes (past, refl, taken))
+fault_caused config (faults.TooLarge length) past taken = tells (inl (length, taken), refl) (closes (past, refl, taken))
+
+pub flood_caused : (config : Config) (bytes : ℕ) (past : List Item) → Flooded config bytes past → Caused config (after_flood bytes) past
+flood_caused config bytes past noted = tells (inr (bytes, noted), refl) (closes (past, refl, noted))
 
 -- A payload of an awaited reply
 

@@ -1,5 +1,6 @@
 -- how a record, and a run, goes on
 pub mod StepLemmas
+pub mod RestLemmas
 pub mod EntryLemmas
 -- the law that events determine the run
 pub mod OneRunLemmas

@@ -6,7 +6,7 @@ use Rattle.rws_wire.specs.declared.fault.WireFault.TheVariants as faults
 use Rattle.rws_wire.specs.declared.drop_cause.DropCause.TheVariants.{BadWire}
 use Rattle.rws_config.specs.declared.config.Config.{Config}
 use Rattle.rws_record.specs.Item.{Item, Put}
-use Rattle.rws_record.specs.Item.Item.{Began, ClientBytes, LinkBytes, ClientGone, LinkLost, Replies, Garbles, Strays, Takes, TakesFault, Puts, Starves}
+use Rattle.rws_record.specs.Item.Item.{Began, ClientBytes, LinkBytes, ClientGone, LinkLost, Replies, Garbles, Strays, Takes, TakesFault, Puts, Starves, Floods}
 use Rattle.rws_record.specs.Item.Put.{Tells, Sends, Drops, Closes}
 use Rattle.rws_record.specs.Values.{opens, links, contains, without, client_fault, link_fault, is_over, is_starved}
 use Rattle.rws_record.specs.Rules.{next, owed, follow, after_fault}
@@ -15,7 +15,7 @@ use Rattle.rws_record.specs.Record.IsRecord.{begins, steps, hears, starves}
 use Rattle.rws_record.proofs.StepLemmas.{Due, Step, of_next, rests_owing_nothing, step_opens_none, input_opens_none}
 use Rattle.rws_record.proofs.WantLemmas.{closes_soon, closes_behind, input_starved, step_starved, unstarved}
 use Rattle.rws_record.proofs.StepLemmas.Due.{replies, garbles, strays, takes, takes_fault}
-use Rattle.rws_record.proofs.StepLemmas.Step.{pays, sends, reads}
+use Rattle.rws_record.proofs.StepLemmas.Step.{pays, sends, floods, reads}
 use Rattle.rws_session.specs.Table.{AreDistinct, AreSound}
 
 -- A list without one of its links
@@ -75,6 +75,7 @@ leaves past (Garbles link fault) e = all refl
 leaves past (Strays link) e = all refl
 leaves past (Takes judgement number) e = all refl
 leaves past (TakesFault fault) e = all refl
+leaves past (Floods bytes) e = all refl
 leaves past (Starves made) e = all refl
 leaves past (Puts (Tells number tell)) e = all refl
 leaves past (Puts (Sends link purpose)) e = all refl
@@ -139,6 +140,7 @@ step_sound : {config : Config} {past : List Item} {item : Item} → Step config 
     → contains link (links (item ∷ past)) ≡ true → IsSound past link → IsSound (item ∷ past) link
 step_sound {past = past} (pays {put = put} o) link has sound = pays_sound past put o link has sound
 step_sound {past = past} (sends o n p s k c) link has sound = inl (unowed past link o sound)
+step_sound {past = past} (floods o n p above) link has sound = inl (unowed past link o sound)
 step_sound {past = past} (reads o n due) link has sound = due_sound due link (unowed past link o sound)
 
 input_sound : (past : List Item) (item : Item) → IsInput item past → (link : ℕ) → link_fault link past ≡ None
@@ -219,6 +221,7 @@ step_readable : {config : Config} {past : List Item} {item : Item} → Step conf
     → IsReadable (item ∷ past)
 step_readable (pays {put = put} o) readable = pays_readable put o readable
 step_readable (sends o n p s k c) readable = sound (goes_on o n readable)
+step_readable (floods o n p above) readable = ends refl
 step_readable (reads o n due) readable = due_readable due (goes_on o n readable)
 
 input_readable : (past : List Item) (item : Item) → IsInput item past → client_fault past ≡ None → IsReadable (item ∷ past)

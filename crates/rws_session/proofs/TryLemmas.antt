@@ -1,5 +1,5 @@
 -- Each kind of step, where it was tried on a session that keeps what it is to keep: it makes the item that is due.
-use Rattle.std.proofs.Common.{◌≡◌, ℕ, Bool, true, false, List, [], ◌∷◌, ◌++◌, map, refl, sym, ap, subst, ◌∙◌, inl, inr, Option, Some, None, Ok, Err}
+use Rattle.std.proofs.Common.{◌≡◌, ℕ, ◌+◌, length, Bool, true, false, List, [], ◌∷◌, ◌++◌, map, refl, sym, ap, subst, ◌∙◌, inl, inr, Option, Some, None, Ok, Err}
 use Rattle.std.specs.Prelude.{◌==◌, if◌then◌else◌, is_some, unwrap_or}
 use Rattle.std.specs.List.{list_any}
 use Rattle.std.proofs.lemmas.List.{append-nil}
@@ -13,17 +13,17 @@ use Rattle.rws_reply.specs.declared.kind.Progress.{Progress}
 use Rattle.rws_reply.specs.declared.kind.Progress.TheVariants.{More, Whole as Ends}
 use Rattle.rws_board.specs.declared.action.Action.{Action}
 use Rattle.rws_config.specs.declared.config.Config.{Config}
-use Rattle.rws_config.specs.declared.limits.TheConstants.{SERVER_PAYLOAD}
+use Rattle.rws_config.specs.declared.limits.TheConstants.{FLOOD_ROOM, SERVER_PAYLOAD}
 use Rattle.rws_record.specs.declared.command.Command.{Command}
 use Rattle.rws_record.specs.Item.{Item, Judged, Part, Purpose, Put}
-use Rattle.rws_record.specs.Item.Item.{Puts, Replies, Takes, TakesFault}
+use Rattle.rws_record.specs.Item.Item.{Floods, Puts, Replies, Takes, TakesFault}
 use Rattle.rws_record.specs.Item.Judged.{Leaves, Pings, IsRefused, Serves}
 use Rattle.rws_record.specs.Item.Put.{Tells, Sends, Drops, Closes}
 use Rattle.rws_record.specs.Item.Tell.{Passes, Owns, Refuses}
 use Rattle.rws_record.specs.Item.Purpose.{Asks}
 use Rattle.rws_record.specs.Judging.{judged}
 use Rattle.rws_record.specs.Values.{Exchange, asked, client_fault, contains, exchange, form_of, held, is_over, kept_on, link_held, links, pending, reply_number, sent_on}
-use Rattle.rws_record.specs.Rules.{after_command, after_fault, after_part, arrival, due_arrival, due_send, due_take, owed, reply_by, send_by, take_by}
+use Rattle.rws_record.specs.Rules.{after_command, after_fault, after_flood, after_part, arrival, due_arrival, due_flood, flood_by, flood_limit, due_send, due_take, owed, reply_by, send_by, take_by}
 use Rattle.rws_record.specs.Outputs.{outs_for, outs_of}
 use Rattle.rws_record.proofs.StepLemmas.{either}
 use Rattle.rws_session.specs.declared.link.Arrival.{Arrival}
@@ -168,6 +168,29 @@ sent config past link old new is o some went =
             ∙ rw (changed_at past link (owing (awaited_of (asked (Asks s.command)))) (link_of (Puts (Sends link (Asks s.command)) ∷ past))
             (links past) (links_distinct is.legal) (sent_elsewhere past link s.command) (sent_here past link s.command))
             (rw o refl);
+      };
+    }
+
+-- A flood behind it
+
+pub flooded_nothing : (config : Config) (past : List Item) (k : Kept) → Is config k past
+    → flood_by k.state.pending (k.state.client.limit + FLOOD_ROOM) (length k.state.client.held) ≡ None → due_flood config past ≡ None
+flooded_nothing config past k is none =
+    let none : flood_by (pending past) (flood_limit config) (length (held config past)) ≡ None = rw is.mirrors at none in
+    rw none refl
+
+pub flooded : (config : Config) (past : List Item) (old new : Kept) (bytes : ℕ) → Is config old past → owed past ≡ []
+    → flood_by old.state.pending (old.state.client.limit + FLOOD_ROOM) (length old.state.client.held) ≡ Some bytes
+    → new ≡ record old { state = owes (after_flood bytes) old.state } → Went config (due_flood config past) past old new
+flooded config past old new bytes is o some now =
+    let some : flood_by (pending past) (flood_limit config) (length (held config past)) ≡ Some bytes = rw is.mirrors at some in
+    record {
+      item = Floods bytes;
+      is_due = rw some refl;
+      made = record {
+        number = ap (λ (k : Kept). k.number) now;
+        outs = ap (λ (k : Kept). k.outs) now ∙ sym (append-nil old.outs);
+        state = ap (λ (k : Kept). k.state) now ∙ ap (owes (after_flood bytes)) is.mirrors ∙ rw o refl;
       };
     }
 

@@ -1,7 +1,7 @@
 //! The links of a session, in a table.
 //!
 //! The table is the list of them in the order in which they were opened, which is that of their numbers.
-ghost use Rattle.std.specs.Prelude.{◌≡◌, ◌==◌, ◌∷◌, [], List, ℕ, None, IfOk, OnErr, OnOk, MatchOption, map};
+ghost use Rattle.std.specs.Prelude.{◌≡◌, ◌==◌, ◌∷◌, [], List, ℕ, None, IfOk, OnErr, OnOk, MatchOption, map, ◌&&◌, is_some};
 ghost use Rattle.std.specs.List.{list_any};
 ghost use Rattle.rws_config.specs.declared.limits.TheConstants.{SERVER_PAYLOAD};
 ghost use Rattle.rws_record.specs.Item.{Item};
@@ -61,6 +61,15 @@ impl LinkTable {
         ensures { result ≡ list_any (λ link. link.number == number) self.now }
     {
         self.links.iter().any(|link| link.number == number)
+    }
+
+    /// The table has a link of this number, and a reply is awaited there.
+    pub(crate) fn awaits(&self, number: u64) -> bool
+        ensures { result ≡ list_any (λ link. link.number == number && is_some link.awaited) self.now }
+    {
+        self.links
+            .iter()
+            .any(|link| link.number == number && link.awaited.is_some())
     }
 
     /// Bytes came on a link.
