@@ -1,29 +1,33 @@
 -- The reply to a command that was sent is awaited, until its end is passed on or the session is closed.
-use Rattle.std.proofs.Common.{◌≡◌, ℕ, Bool, true, false, List, [], ◌∷◌, ◌++◌, drop, refl, sym, ap, subst, ◌∙◌, inl, inr, Option, Some, None}
+use Rattle.std.proofs.Common.{◌≡◌, ℕ, ◌+◌, Bool, true, false, List, [], ◌∷◌, ◌++◌, drop, refl, sym, ap, subst, ◌∙◌, inl, inr, Option, Some, None}
 use Rattle.std.specs.Prelude.{◌⊎◌, ◌==◌, if◌then◌else◌}
 use Rattle.std.proofs.lemmas.Bool.{eq-eqb}
 use Rattle.rws_wire.specs.declared.drop_cause.DropCause.{DropCause}
 use Rattle.rws_wire.specs.declared.drop_cause.DropCause.TheVariants.{BadWire, BadReply, Unasked, End}
 use Rattle.rws_reply.specs.declared.kind.Progress.{Progress}
 use Rattle.rws_reply.specs.declared.kind.Progress.TheVariants.{More, Whole as Ends}
+use Rattle.rws_reply.specs.Replies.{Payload}
+use Rattle.rws_reply.specs.ClientForm.{client_reply}
 use Rattle.rws_config.specs.declared.config.Config.{Config}
 use Rattle.rws_record.specs.declared.command.Command.{Command}
 use Rattle.rws_record.specs.Item.{Item, Part, Tell, Put}
-use Rattle.rws_record.specs.Item.Item.{ClientBytes, LinkBytes, ClientGone, LinkLost, Replies, Garbles, Strays, TakesFault, Puts}
+use Rattle.rws_record.specs.Item.Item.{ClientBytes, LinkBytes, ClientGone, LinkLost, Replies, Garbles, Strays, TakesFault, Floods, Puts}
 use Rattle.rws_record.specs.Item.Purpose.{Asks}
 use Rattle.rws_record.specs.Item.Put.{Tells, Sends, Drops, Closes}
 use Rattle.rws_record.specs.Item.Tell.{Passes, Owns, Refuses}
-use Rattle.rws_record.specs.Values.{kept_on, Exchange, exchange, asked, with_part, goes_on_by, pending, sent_on, reply_number, told, is_over}
-use Rattle.rws_record.specs.Rules.{next, owed, after_loss, after_part, after_answer, part_of}
+use Rattle.rws_record.specs.Values.{kept_on, Exchange, exchange, asked, with_part, goes_on_by, prepared_handle, form_of, pending, sent_on, reply_number, told, is_over, is_starved}
+use Rattle.rws_record.specs.Rules.{next, owed, after_loss, after_part, after_answer, part_of, flood_limit}
 use Rattle.rws_record.specs.Record.{IsRecord, IsInput}
-use Rattle.rws_record.specs.Record.IsRecord.{begins, steps, hears}
+use Rattle.rws_record.specs.Record.IsRecord.{begins, steps, hears, starves}
 use Rattle.rws_record.proofs.StepLemmas.{Due, Step, of_next, rests_owing_nothing}
 use Rattle.rws_record.proofs.StepLemmas.Due.{replies, garbles, strays, takes, takes_fault}
-use Rattle.rws_record.proofs.StepLemmas.Step.{pays, sends, reads}
-use Rattle.rws_laws.specs.Causes.{IsCaused}
+use Rattle.rws_record.proofs.StepLemmas.Step.{pays, sends, floods, reads}
+use Rattle.rws_laws.specs.Causes.{IsCaused, came_on}
+use Rattle.rws_laws.proofs.CameLemmas.{sofar_came}
 use Rattle.rws_laws.proofs.Sound.{Caused, Sound, kept_there, same_some}
 use Rattle.rws_laws.proofs.Sound.Caused.{drops, closes, tells}
 use Rattle.rws_laws.proofs.LinksLemmas.{loss_closes}
+use Rattle.rws_record.proofs.WantLemmas.{input_starved, step_starved, unstarved}
 use Rattle.rws_laws.proofs.SoundLemmas.{legal_sound, clean}
 
 -- what is owed ends the reply, or the session
@@ -70,7 +74,7 @@ module _ (config : Config) (past : List Item) (sound : Sound config past) (await
   drop_settles : (lost : ℕ) (cause : DropCause) → IsCaused config (Drops lost cause) past
       → (ends_it (owed (Puts (Drops lost cause) ∷ past)) ≡ true) ⊎ (is_over past ≡ true)
   drop_settles lost BadWire caused = inl (loss_settles lost (kept_there sound.one_link lost caused.2))
-  drop_settles lost BadReply caused = inl (loss_settles lost (kept_there sound.one_link lost caused.5))
+  drop_settles lost BadReply caused = inl (loss_settles lost (kept_there sound.one_link lost caused.4))
   drop_settles lost Unasked caused = inl (loss_settles lost (kept_there sound.one_link lost caused.1))
   drop_settles lost End caused = inr caused.0
   drop_settles lost _ caused = absurd caused
@@ -99,11 +103,13 @@ module _ (config : Config) (past : List Item) (sound : Sound config past) (await
     ]
 
     module _ (from : ℕ) (e : Exchange) (part : Part) (a : exchange from past ≡ Some e) where
-      abbrev answer : Command → Option Progress → List Put
-      answer command far = after_answer from command part far (reply_number past)
+      abbrev its : Command → Exchange
+      its command = record { purpose = Asks command; next = e.next; sofar = e.sofar }
 
-      owed_now : (command : Command) → e ≡ record { purpose = Asks command; next = e.next; sofar = told past }
-          → owed (Replies from part ∷ past) ≡ answer command part.progress
+      abbrev answer : Command → Option Progress → List Put
+      answer command far = after_answer from command (form_of (its command) part.payload) far part.behind (reply_number past)
+
+      owed_now : (command : Command) → e ≡ its command → owed (Replies from part ∷ past) ≡ answer command part.progress
       owed_now command is =
           ap (λ (x : Option Exchange). after_part from part x (reply_number past)) a
           ∙ ap (λ (x : Exchange). after_part from part (Some x) (reply_number past)) is
@@ -128,7 +134,7 @@ module _ (config : Config) (past : List Item) (sound : Sound config past) (await
         let waits = sound.waits from e a in
         let part : Part = part_of e payload number rest in
         reply_awaits from e part a waits.command part.progress refl
-        (owed_now from e part a waits.command (clean config past sound o e waits.command waits.is))
+        (owed_now from e part a waits.command waits.is)
     due_awaits (garbles {link = from} {fault = fault} has a f) = still (Garbles from fault) refl (λ link. refl)
     due_awaits (strays {link = from} has a u) = still (Strays from) refl (λ link. refl)
     due_awaits (takes p f) = λ link s. absurd cc
@@ -152,24 +158,40 @@ step_awaits : {config : Config} {past : List Item} {item : Item} → Step config
 step_awaits {config} {past} (pays {put = put} {others = others} o) sound awaiting =
     put_awaits config past sound awaiting put others o (subst (λ (list : List Put). Caused config list past) o sound.owes)
 step_awaits {past = past} (sends {link = to} {command = command} o n p s k c) sound awaiting = send_awaits past to command
+step_awaits {config} {past} (floods o n p above) sound awaiting =
+    still config past sound awaiting o n (Floods (flood_limit config + 1)) refl (λ link. refl)
 step_awaits {config} {past} (reads o n due) sound awaiting = due_awaits config past sound awaiting o n due
 
-legal_awaits : {config : Config} {past : List Item} → IsRecord config past → Awaiting past
-legal_awaits (begins link server) = λ other s. absurd cc
-legal_awaits {config} (steps {past = past} {item = item} legal e) =
-    step_awaits (of_next config past item e) (legal_sound legal) (legal_awaits legal)
-legal_awaits {config} (hears {past = past} {item = item} legal rests n input) =
-    input_awaits config past (legal_sound legal) (legal_awaits legal) (rests_owing_nothing config past rests) n item input
+legal_awaits : {config : Config} {past : List Item} → IsRecord config past → is_starved past ≡ false → Awaiting past
+legal_awaits (begins link server) fed = λ other s. absurd cc
+legal_awaits {config} (steps {past = past} {item = item} legal e) fed =
+    let step = of_next config past item e in
+    let before = sym (step_starved step) ∙ fed in
+    step_awaits step (legal_sound legal before) (legal_awaits legal before)
+legal_awaits {config} (hears {past = past} {item = item} legal rests n input) fed =
+    let before = sym (input_starved past item input) ∙ fed in
+    input_awaits config past (legal_sound legal before) (legal_awaits legal before) (rests_owing_nothing config past rests) n item input
+legal_awaits (starves legal once can) fed = absurd cc
 
--- where a session rests, the reply to the command that was sent is awaited, and all that came of it was told
+-- where a session rests, the reply to the command that was sent is awaited, and all that came of it was told in the client's
+-- form
 pub rests_awaiting : (config : Config) (past : List Item) → IsRecord config past → next config past ≡ None → is_over past ≡ false
     → (command : Command) (link : ℕ) → pending past ≡ Some command → sent_on past ≡ Some link
-    → (number : ℕ) × (exchange link past ≡ Some (record { purpose = Asks command; next = number; sofar = told past }))
+    → (number : ℕ) × (exchange link past ≡ Some (record { purpose = Asks command; next = number; sofar = came_on link past }))
+    × (told past ≡ client_reply command.kind prepared_handle (came_on link past))
 rests_awaiting config past legal rests n command link p s =
     let o = rests_owing_nothing config past rests in
-    let sound = legal_sound legal in
-    let its = awaited config past sound (legal_awaits legal) o n link s in
+    let fed = unstarved legal o n in
+    let sound = legal_sound legal fed in
+    let its = awaited config past sound (legal_awaits legal fed) o n link s in
     let waits = sound.waits link its.0 its.1 in
     let same : waits.command ≡ command = same_some waits.command command (sym waits.waits ∙ p) in
-    let is = clean config past sound o its.0 waits.command waits.is in
-    (its.0.next, its.1 ∙ ap Some is ∙ ap (λ (c : Command). Some (record { purpose = Asks c; next = its.0.next; sofar = told past })) same)
+    let came = sofar_came link past its.0 its.1 in
+    let form = clean config past sound o its.0 waits.command waits.in_form in (
+      its.0.next,
+      its.1 ∙ ap Some waits.is
+          ∙ ap (λ (sofar : List Payload). Some (record { purpose = Asks waits.command; next = its.0.next; sofar = sofar })) came
+          ∙ ap (λ (c : Command). Some (record { purpose = Asks c; next = its.0.next; sofar = came_on link past })) same,
+      sym form ∙ ap (client_reply waits.command.kind prepared_handle) came
+          ∙ ap (λ (c : Command). client_reply c.kind prepared_handle (came_on link past)) same,
+    )

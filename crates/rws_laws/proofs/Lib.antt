@@ -1,11 +1,15 @@
 -- what a legal record keeps true
 pub mod Sound
 pub mod LinksLemmas
+pub mod CameLemmas
 pub mod ReplyLemmas
 pub mod OwedLemmas
 pub mod SoundLemmas
+pub mod WantedLemmas
 -- the law on causes
 pub mod CausesLemmas
+-- the law on what a client has where a reply ended
+pub mod WholeLemmas
 -- the law on what a session that rests has answered
 pub mod EndedLemmas
 pub mod AwaitedLemmas

@@ -64,7 +64,7 @@ pub links_drop : (config : Config) (past : List Item) (link : ℕ) (cause : Drop
     → drop 1 (owed past) ≡ [] → Links past → Links (Puts (Drops link cause) ∷ past)
 links_drop config past link BadWire caused d one_link = links_fault link BadWire refl refl d (kept_there one_link link caused.2) one_link
 links_drop config past link BadReply caused d one_link =
-    links_fault link BadReply refl refl d (kept_there one_link link caused.5) one_link
+    links_fault link BadReply refl refl d (kept_there one_link link caused.4) one_link
 links_drop config past link Unasked caused d one_link = links_fault link Unasked refl refl d (kept_there one_link link caused.1) one_link
 links_drop config past link End caused d one_link = loses link (Puts (Drops link End)) refl refl (λ e. is_over_now e caused.0) one_link
 links_drop config past link _ caused d one_link = absurd caused

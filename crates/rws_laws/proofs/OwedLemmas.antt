@@ -1,5 +1,5 @@
 -- What is owed on a legal record has its cause.
-use Rattle.std.proofs.Common.{◌≡◌, ℕ, Bool, true, false, List, [], ◌∷◌, length, map, refl, sym, ap, ◌∙◌, inl, inr, Option, Some, None}
+use Rattle.std.proofs.Common.{◌≡◌, ℕ, Bool, true, false, List, [], ◌∷◌, ◌++◌, length, map, refl, sym, ap, subst, ◌∙◌, inl, inr, Option, Some, None}
 use Rattle.std.specs.Prelude.{◌≢◌, ◌⊎◌, Contains, ◌==◌}
 use Rattle.std.proofs.lemmas.Bool.{eq-eqb}
 use Rattle.rws_wire.specs.declared.fault.WireFault.{WireFault}
@@ -9,9 +9,11 @@ use Rattle.rws_wire.specs.Payloads.{first_payload}
 use Rattle.rws_wire.specs.Payloads.Beginning.{Whole}
 use Rattle.rws_reply.specs.declared.kind.Progress.{Progress}
 use Rattle.rws_reply.specs.declared.kind.Progress.TheVariants.{More, Whole as Ends}
-use Rattle.rws_reply.specs.Replies.{Payload}
+use Rattle.rws_reply.specs.Replies.{Payload, IsReply, Begins}
 use Rattle.rws_reply.specs.Tracking.{progress}
+use Rattle.rws_reply.specs.ClientForm.{client_reply}
 use Rattle.rws_reply.proofs.ProgressLemmas.{progress_is_exact}
+use Rattle.rws_reply.proofs.ClientLemmas.{client_replies_grow}
 use Rattle.rws_config.specs.declared.config.Config.{Config}
 use Rattle.rws_config.specs.declared.limits.TheConstants.{SERVER_PAYLOAD}
 use Rattle.rws_record.specs.declared.command.Command.{Command}
@@ -24,10 +26,11 @@ use Rattle.rws_record.specs.Item.Put.{Tells, Drops}
 use Rattle.rws_record.specs.Item.Tell.{Passes}
 use Rattle.rws_record.specs.Requests.{request_of}
 use Rattle.rws_record.specs.Judging.{judged_by, refusal_of}
-use Rattle.rws_record.specs.Values.{links, kept_on, Exchange, exchange, goes_on_by, link_held, rest_of, pending, sent_on, reply_number, told, told_from, is_over}
-use Rattle.rws_record.specs.Rules.{is_link, after_loss, after_loss_by, loss_by, after_command, after_fault, after_answer, unasked, is_some_byte, part_of}
-use Rattle.rws_laws.specs.Causes.{Took, TookFault, IsPending, IsOfReply, lost}
+use Rattle.rws_record.specs.Values.{links, kept_on, Exchange, exchange, goes_on_by, prepared_handle, form_of, link_held, rest_of, pending, sent_on, reply_number, told, told_from, is_over}
+use Rattle.rws_record.specs.Rules.{is_link, after_loss, after_loss_by, loss_by, after_command, after_fault, after_flood, after_answer, unasked, is_some_byte, part_of}
+use Rattle.rws_laws.specs.Causes.{Took, TookFault, Flooded, IsPending, IsOfReply, IsPassed, came_on, lost}
 use Rattle.rws_laws.specs.Causes.Asked.{before}
+use Rattle.rws_laws.proofs.CameLemmas.{sofar_came}
 use Rattle.rws_laws.proofs.Sound.{Caused, Links, Sent, ToldBy, Telling, IsAsked, Asking, has_itself, is_that, is_not}
 use Rattle.rws_laws.proofs.Sound.Caused.{nothing, drops, closes, tells}
 use Rattle.rws_laws.proofs.Sound.Links.{has_one, is_over_now, closes_now}
@@ -35,7 +38,7 @@ use Rattle.rws_laws.proofs.Sound.ToldBy.{none_yet, a_part, all}
 
 -- A session that is over gives up the links that it has
 
-few : {past : List Item} → Links past → (links past ≡ []) ⊎ ((link : ℕ) × (links past ≡ link ∷ []))
+pub few : {past : List Item} → Links past → (links past ≡ []) ⊎ ((link : ℕ) × (links past ≡ link ∷ []))
 few (has_one link e k) = inr (link, e)
 few (is_over_now e over) = inl e
 few (closes_now e reason owes) = inl e
@@ -105,7 +108,10 @@ command_caused config payload number past requests.Unknown r taken = tells (payl
 pub fault_caused : (config : Config) (fault : WireFault) (past : List Item) → TookFault config fault past
     → Caused config (after_fault fault) past
 fault_caused config (faults.OutOfOrder want got) past taken = tells (want, got, taken, refl) (closes (past, refl, taken))
-fault_caused config (faults.TooLarge length) past taken = tells (length, taken, refl) (closes (past, refl, taken))
+fault_caused config (faults.TooLarge length) past taken = tells (inl (length, taken), refl) (closes (past, refl, taken))
+
+pub flood_caused : (config : Config) (bytes : ℕ) (past : List Item) → Flooded config bytes past → Caused config (after_flood bytes) past
+flood_caused config bytes past noted = tells (inr (bytes, noted), refl) (closes (past, refl, noted))
 
 -- A payload of an awaited reply
 
@@ -115,17 +121,28 @@ one_of link command none_yet s p = inl refl
 one_of link command (a_part some) s p = inr s
 one_of link command all s p = absurd cc
 
-module _ (config : Config) (past : List Item) (link next : ℕ) (command : Command) (payload : Payload) (number : ℕ) where
+module _ (config : Config) (past : List Item) (link next : ℕ) (command : Command) (sofar : List Payload) (payload : Payload)
+    (number : ℕ) where
   -- the reply that the link owes
   abbrev pub owes : Exchange
-  owes = record { purpose = Asks command; next = next; sofar = told past }
+  owes = record { purpose = Asks command; next = next; sofar = sofar }
 
   abbrev pub part : List ℕ → Part
   part rest = part_of owes payload number rest
 
+  -- what the client gets for it
+  abbrev pub form : Payload
+  form = form_of owes payload
+
+  pub grown : client_reply command.kind prepared_handle sofar ≡ told past
+      → client_reply command.kind prepared_handle (sofar ++ payload ∷ []) ≡ told past ++ form ∷ []
+  grown formed =
+      client_replies_grow command.kind prepared_handle sofar payload ∙ ap (λ (list : List Payload). list ++ form ∷ []) formed
+
   module _ (has : Contains (links past) link) (a : exchange link past ≡ Some owes) (p : pending past ≡ Some command)
-      (s : sent_on past ≡ Some link) (telling : Telling past) (its : IsAsked config command past) where
-    of_reply : (rest : List ℕ) → IsOfReply config link command payload (Replies link (part rest) ∷ past)
+      (s : sent_on past ≡ Some link) (formed : client_reply command.kind prepared_handle sofar ≡ told past)
+      (telling : Telling past) (its : IsAsked config command past) where
+    of_reply : (rest : List ℕ) → IsOfReply config link command (Replies link (part rest) ∷ past)
     of_reply rest = record {
       came = refl;
       pending = record { waits = p; asked = before its.asked };
@@ -133,7 +150,20 @@ module _ (config : Config) (past : List Item) (link next : ℕ) (command : Comma
       one_link = one_of link command telling s p;
     }
 
-    awaits_no_more : (rest : List ℕ) (far : Option Progress) → progress command.kind (told past) payload ≡ far
+    -- what came with it
+    came : (rest : List ℕ) → came_on link (Replies link (part rest) ∷ past) ≡ sofar ++ payload ∷ []
+    came rest =
+        let itself : (link == link) ≡ true = eq-eqb link link refl in
+        rw itself (ap (λ (list : List Payload). list ++ payload ∷ []) (sym (sofar_came link past owes a)))
+
+    is_passed : (rest : List ℕ) → IsPassed config (reply_number past) link command form (Replies link (part rest) ∷ past)
+    is_passed rest = record {
+      of_reply = of_reply rest;
+      in_form = sym (ap (client_reply command.kind prepared_handle) (came rest) ∙ grown formed);
+      counts = its.counts;
+    }
+
+    awaits_no_more : (rest : List ℕ) (far : Option Progress) → progress command.kind sofar payload ≡ far
         → goes_on_by far (part rest) (exchange link past) ≡ None → exchange link (Replies link (part rest) ∷ past) ≡ None
     awaits_no_more rest far e none =
         let itself : (link == link) ≡ true = eq-eqb link link refl in
@@ -149,15 +179,22 @@ module _ (config : Config) (past : List Item) (link next : ℕ) (command : Comma
         drops {link = link} {cause = Unasked} ((byte, rest, none, rw (itself, a) (ap rest_of f)), has)
 
     pub reply_caused : (rest : List ℕ) → first_payload SERVER_PAYLOAD next (link_held link past) ≡ Whole payload number rest
-        → (far : Option Progress) → progress command.kind (told past) payload ≡ far
-        → Caused config (after_answer link command (part rest) far (reply_number past)) (Replies link (part rest) ∷ past)
+        → (far : Option Progress) → progress command.kind sofar payload ≡ far
+        → Caused config (after_answer link command form far (is_some_byte rest) (reply_number past)) (Replies link (part rest) ∷ past)
     reply_caused rest f None e =
-        let bad = (progress_is_exact command.kind (told past) payload).bad e in
-        drops {link = link} {cause = BadReply} (command, payload, of_reply rest, bad.0, bad.1, has)
+        let bad = (progress_is_exact command.kind sofar payload).bad e in
+        drops {link = link} {cause = BadReply} (
+          command,
+          of_reply rest,
+          (λ begins. bad.0 (subst (Begins command.kind) (came rest) begins)),
+          (λ outcome reply. bad.1 outcome (subst (λ (list : List Payload). IsReply command.kind list outcome) (came rest) reply)),
+          has,
+        )
     reply_caused rest f (Some More) e =
-        tells (of_reply rest, (progress_is_exact command.kind (told past) payload).more.0 e, its.counts) nothing
+        let begins = (progress_is_exact command.kind sofar payload).more.0 e in
+        tells (is_passed rest, subst (Begins command.kind) (sym (came rest)) begins) nothing
     reply_caused rest f (Some (Ends outcome)) e =
         let none = awaits_no_more rest (Some (Ends outcome)) e refl in
-        let whole = (progress_is_exact command.kind (told past) payload).whole outcome in
-        tells (of_reply rest, whole.0 e, its.counts, none)
-        (byte_behind (Passes link command payload (Some outcome)) (reply_number past) rest f none)
+        let whole = (progress_is_exact command.kind sofar payload).whole outcome in
+        tells (is_passed rest, subst (λ (list : List Payload). IsReply command.kind list outcome) (sym (came rest)) (whole.0 e), none)
+        (byte_behind (Passes link command form (Some outcome)) (reply_number past) rest f none)

@@ -11,7 +11,6 @@ use Rattle.rws_record.specs.declared.command.Command.{Command}
 use Rattle.rws_record.specs.Item.{Item, Put}
 use Rattle.rws_record.specs.Item.Item.{Puts}
 use Rattle.rws_record.specs.Item.Tell.{Passes}
-use Rattle.rws_record.specs.Item.Purpose.{Asks}
 use Rattle.rws_record.specs.Item.Put.{Tells, Drops}
 use Rattle.rws_record.specs.Values.{Exchange, pending, reply_number, told}
 use Rattle.rws_record.specs.Rules.{Loss, after_loss_by, is_loss, loss_of, after_loss, owed}
@@ -87,7 +86,8 @@ owes_same {told = list} owing now same waits = λ link e a.
     let awaited = waits link e a in
     record {
       command = awaited.command;
-      is = awaited.is ∙ ap (λ (more : List Payload). record { purpose = Asks awaited.command; next = e.next; sofar = list ++ more }) same;
+      is = awaited.is;
+      in_form = awaited.in_form ∙ ap (λ (more : List Payload). list ++ more) same;
       waits = awaited.waits;
       sent_there = awaited.sent_there;
     }

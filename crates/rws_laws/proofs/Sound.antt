@@ -5,6 +5,7 @@ use Rattle.std.proofs.lemmas.Bool.{eqb-true, eq-eqb}
 use Rattle.rws_wire.specs.declared.close_reason.CloseReason.{CloseReason}
 use Rattle.rws_wire.specs.declared.drop_cause.DropCause.{DropCause}
 use Rattle.rws_reply.specs.Replies.{Payload}
+use Rattle.rws_reply.specs.ClientForm.{client_reply}
 use Rattle.rws_config.specs.declared.config.Config.{Config}
 use Rattle.rws_record.specs.declared.command.Command.{Command}
 use Rattle.rws_record.specs.Item.{Item, Tell, Put}
@@ -12,7 +13,7 @@ use Rattle.rws_record.specs.Item.Item.{Puts}
 use Rattle.rws_record.specs.Item.Tell.{Passes}
 use Rattle.rws_record.specs.Item.Put.{Tells, Drops, Closes}
 use Rattle.rws_record.specs.Item.Purpose.{Asks}
-use Rattle.rws_record.specs.Values.{links, kept_on, Exchange, exchange, pending, sent_on, reply_number, told, told_from, is_over}
+use Rattle.rws_record.specs.Values.{links, kept_on, Exchange, exchange, prepared_handle, pending, sent_on, reply_number, told, told_from, is_over}
 use Rattle.rws_record.specs.Rules.{is_link, owed}
 use Rattle.rws_laws.specs.Causes.{Asked, IsCaused, number_behind_all}
 
@@ -70,10 +71,12 @@ passed [] = []
 passed (Tells number (Passes link command payload outcome) ∷ others) = payload ∷ passed others
 passed (_ ∷ others) = passed others
 
--- a reply that is awaited is the one to the pending command, and all that came of it was passed on, or is about to be
+-- a reply that is awaited is the one to the pending command, and all that came of it was passed on in the client's form, or is
+-- about to be
 pub record AwaitedBy (link : ℕ) (e : Exchange) (pending : Option Command) (sent : Option ℕ) (told : List Payload) (owed : List Put) : Type 0 where
   pub command : Command
-  pub is : e ≡ record { purpose = Asks command; next = e.next; sofar = told ++ passed owed }
+  pub is : e ≡ record { purpose = Asks command; next = e.next; sofar = e.sofar }
+  pub in_form : client_reply command.kind prepared_handle e.sofar ≡ told ++ passed owed
   pub waits : pending ≡ Some command
   pub sent_there : sent ≡ Some link
 

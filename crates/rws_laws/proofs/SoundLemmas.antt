@@ -1,5 +1,5 @@
 -- Each step of a legal record keeps it sound.
-use Rattle.std.proofs.Common.{◌≡◌, ℕ, Bool, true, false, List, [], ◌∷◌, ◌++◌, drop, refl, sym, ap, subst, ◌∙◌, append_assoc, Option, Some, None}
+use Rattle.std.proofs.Common.{◌≡◌, ℕ, ◌+◌, ◌<◌, Bool, true, false, List, [], ◌∷◌, ◌++◌, length, drop, refl, sym, ap, subst, ◌∙◌, append_assoc, arith, Option, Some, None}
 use Rattle.std.specs.Prelude.{Contains, ◌==◌, if◌then◌else◌}
 use Rattle.std.proofs.lemmas.Bool.{eqb-true, eq-eqb}
 use Rattle.std.proofs.lemmas.List.{append-nil}
@@ -15,36 +15,40 @@ use Rattle.rws_reply.specs.declared.kind.Progress.{Progress}
 use Rattle.rws_reply.specs.declared.kind.Progress.TheVariants.{More, Whole as Ends}
 use Rattle.rws_reply.specs.Replies.{Payload}
 use Rattle.rws_reply.specs.Tracking.{progress}
+use Rattle.rws_reply.specs.ClientForm.{client_reply}
 use Rattle.rws_config.specs.declared.config.Config.{Config}
 use Rattle.rws_config.specs.declared.limits.TheConstants.{SERVER_PAYLOAD}
 use Rattle.rws_record.specs.declared.command.Command.{Command}
 use Rattle.rws_record.specs.declared.request.Request.{Request}
 use Rattle.rws_record.specs.declared.request.Request.TheVariants as requests
-use Rattle.rws_record.specs.Item.{Item, Judged, Tell, Put}
-use Rattle.rws_record.specs.Item.Item.{Began, ClientBytes, LinkBytes, ClientGone, LinkLost, Replies, Takes, TakesFault, Puts}
+use Rattle.rws_record.specs.Item.{Item, Judged, Part, Tell, Put}
+use Rattle.rws_record.specs.Item.Item.{Began, ClientBytes, LinkBytes, ClientGone, LinkLost, Replies, Takes, TakesFault, Floods, Puts}
 use Rattle.rws_record.specs.Item.Purpose.{Asks}
 use Rattle.rws_record.specs.Item.Put.{Tells, Sends, Drops, Closes}
 use Rattle.rws_record.specs.Item.Tell.{Passes, Owns, Refuses}
 use Rattle.rws_record.specs.Requests.{request_of}
 use Rattle.rws_record.specs.Judging.{judged, judged_by, refusal_of}
-use Rattle.rws_record.specs.Values.{held, links, kept_on, Exchange, exchange, asked, with_part, goes_on_by, link_held, pending, sent_on, reply_number, told, told_from, is_over}
-use Rattle.rws_record.specs.Rules.{after_loss, after_fault, after_part, after_answer, part_of, farewells, owed}
+use Rattle.rws_record.specs.Values.{held, links, kept_on, Exchange, exchange, asked, with_part, goes_on_by, prepared_handle, link_held, pending, sent_on, reply_number, told, told_from, is_over, is_starved}
+use Rattle.rws_record.specs.Rules.{after_loss, after_fault, after_part, after_answer, is_some_byte, part_of, farewells, owed, after_flood, flood_limit}
 use Rattle.rws_record.specs.Record.{IsRecord, IsInput}
-use Rattle.rws_record.specs.Record.IsRecord.{begins, steps, hears}
+use Rattle.rws_record.specs.Record.IsRecord.{begins, steps, hears, starves}
 use Rattle.rws_record.proofs.StepLemmas.{Due, Step, of_next, rests_owing_nothing}
+use Rattle.rws_record.proofs.WantLemmas.{input_starved, step_starved}
 use Rattle.rws_record.proofs.StepLemmas.Due.{replies, garbles, strays, takes, takes_fault}
-use Rattle.rws_record.proofs.StepLemmas.Step.{pays, sends, reads}
-use Rattle.rws_laws.specs.Causes.{Took, IsCaused}
+use Rattle.rws_record.proofs.StepLemmas.Step.{pays, sends, floods, reads}
+use Rattle.rws_laws.specs.Causes.{Took, Flooded, IsCaused}
+use Rattle.rws_laws.specs.Causes.Flooded.{flooded}
 use Rattle.rws_laws.specs.Causes.Took.{took}
 use Rattle.rws_laws.specs.Causes.TookFault.{took_fault}
 use Rattle.rws_laws.specs.Causes.Asked.{here}
+use Rattle.rws_laws.proofs.CameLemmas.{no_form}
 use Rattle.rws_laws.proofs.Sound.{Caused, Links, IsAsked, Asking, passed, AwaitedBy, WaitsBy, Sound, kept_there, goes_with_one, same_some}
 use Rattle.rws_laws.proofs.Sound.Caused.{nothing, drops, closes, tells}
 use Rattle.rws_laws.proofs.Sound.Links.{has_one}
 use Rattle.rws_laws.proofs.Sound.ToldBy.{none_yet, all}
 use Rattle.rws_laws.proofs.LinksLemmas.{is_no_close, links_drop, links_stay, links_close, links_input}
 use Rattle.rws_laws.proofs.ReplyLemmas.{still_asked, asked_on, told_part, unsent_told, told_sent, sent_there, owes_same, lost_passes, drop_passes, farewells_pass, waits_none}
-use Rattle.rws_laws.proofs.OwedLemmas.{farewells_caused, loss_caused, command_caused, fault_caused, owes, part, reply_caused}
+use Rattle.rws_laws.proofs.OwedLemmas.{farewells_caused, loss_caused, command_caused, fault_caused, flood_caused, owes, part, form, grown, reply_caused}
 
 -- What is given out because it is owed
 
@@ -93,22 +97,22 @@ module _ (config : Config) (past : List Item) (sound : Sound config past) where
     asks = λ other e. absurd cc;
     waits = λ other e a.
         let awaited = sound.waits other e a in
-        let same : link ≡ other = same_some link other (sym cause.0.sent ∙ awaited.sent_there) in
-        let none : exchange other past ≡ None = rw same at cause.3 in
+        let same : link ≡ other = same_some link other (sym cause.0.of_reply.sent ∙ awaited.sent_there) in
+        let none : exchange other past ≡ None = rw same at cause.2 in
         absurd cc;
     owes = rw o rest;
   }
   tell_sound number (Passes link command payload None) others o cause rest = record {
     one_link = links_stay (Tells number (Passes link command payload None)) o refl refl refl refl sound.one_link;
     sent = sound.sent;
-    telling = told_part (told past) payload link (pending past) (sent_on past) cause.0.sent;
-    asks = asked_on number link command payload cause.0.pending.waits cause.2 sound.asks;
+    telling = told_part (told past) payload link (pending past) (sent_on past) cause.0.of_reply.sent;
+    asks = asked_on number link command payload cause.0.of_reply.pending.waits cause.0.counts sound.asks;
     waits = λ other e a.
         let awaited = sound.waits other e a in
         record {
           command = awaited.command;
-          is = awaited.is ∙ ap (λ (sofar : List Payload). record { purpose = Asks awaited.command; next = e.next; sofar = sofar })
-              (one_passed (told past) (owed past) number link command payload None others o);
+          is = awaited.is;
+          in_form = awaited.in_form ∙ one_passed (told past) (owed past) number link command payload None others o;
           waits = awaited.waits;
           sent_there = awaited.sent_there;
         };
@@ -122,7 +126,7 @@ module _ (config : Config) (past : List Item) (sound : Sound config past) where
   drop_owes : (link : ℕ) (cause : DropCause) → drop 1 (owed past) ≡ [] → IsCaused config (Drops link cause) past
       → Caused config (owed (Puts (Drops link cause) ∷ past)) (Puts (Drops link cause) ∷ past)
   drop_owes link BadWire d caused = rw d (rw (append-nil (after_loss link past)) (loss_caused config (Puts (Drops link BadWire) ∷ past) link sound.sent sound.telling (still_asked refl refl refl sound.asks) refl (kept_there sound.one_link link caused.2)))
-  drop_owes link BadReply d caused = rw d (rw (append-nil (after_loss link past)) (loss_caused config (Puts (Drops link BadReply) ∷ past) link sound.sent sound.telling (still_asked refl refl refl sound.asks) refl (kept_there sound.one_link link caused.5)))
+  drop_owes link BadReply d caused = rw d (rw (append-nil (after_loss link past)) (loss_caused config (Puts (Drops link BadReply) ∷ past) link sound.sent sound.telling (still_asked refl refl refl sound.asks) refl (kept_there sound.one_link link caused.4)))
   drop_owes link Unasked d caused = rw d (rw (append-nil (after_loss link past)) (loss_caused config (Puts (Drops link Unasked) ∷ past) link sound.sent sound.telling (still_asked refl refl refl sound.asks) refl (kept_there sound.one_link link caused.1)))
   drop_owes link End d caused = rw d nothing
   drop_owes link _ d caused = absurd caused
@@ -164,9 +168,11 @@ module _ (config : Config) (past : List Item) (sound : Sound config past) where
         → AwaitedBy other e (pending past) (Some link) (told past) (owed (Puts (Sends link (Asks command)) ∷ past))
     now_awaited other e true t a = record {
       command = command;
-      is = subst (λ (x : Exchange). x ≡ record { purpose = Asks command; next = x.next; sofar = told past ++ passed (drop 1 (owed past)) })
+      is = subst (λ (x : Exchange). x ≡ record { purpose = Asks command; next = x.next; sofar = x.sofar })
+          (same_some (asked (Asks command)) e a) refl;
+      in_form = subst (λ (x : Exchange). client_reply command.kind prepared_handle x.sofar ≡ told past ++ passed (drop 1 (owed past)))
           (same_some (asked (Asks command)) e a)
-          (rw (o, (unsent_told command s p sound.telling).0) refl);
+          (rw (o, (unsent_told command s p sound.telling).0) (no_form command.kind));
       waits = p;
       sent_there = ap Some (eqb-true link other t);
     }
@@ -230,50 +236,57 @@ module _ (config : Config) (past : List Item) (sound : Sound config past) where
 
   -- A payload of an awaited reply
 
-  -- what the link owes where nothing is owed to the client
+  -- what the client was told where nothing is owed to it
   pub clean : owed past ≡ [] → (e : Exchange) (its : Command)
-      → e ≡ record { purpose = Asks its; next = e.next; sofar = told past ++ passed (owed past) }
-      → e ≡ record { purpose = Asks its; next = e.next; sofar = told past }
-  clean o e its is =
-      is ∙ ap (λ (list : List Put). record { purpose = Asks its; next = e.next; sofar = told past ++ passed list }) o
-      ∙ ap (λ (sofar : List Payload). record { purpose = Asks its; next = e.next; sofar = sofar }) (append-nil (told past))
+      → client_reply its.kind prepared_handle e.sofar ≡ told past ++ passed (owed past)
+      → client_reply its.kind prepared_handle e.sofar ≡ told past
+  clean o e its formed =
+      formed ∙ ap (λ (list : List Put). told past ++ passed list) o ∙ append-nil (told past)
 
-  module _ (link next : ℕ) (command : Command) (payload rest : Payload) (number : ℕ) (o : owed past ≡ [])
-      (a : exchange link past ≡ Some (owes config past link next command payload number)) (p : pending past ≡ Some command)
-      (s : sent_on past ≡ Some link) where
+  module _ (link next : ℕ) (command : Command) (sofar : List Payload) (payload rest : Payload) (number : ℕ) (o : owed past ≡ [])
+      (a : exchange link past ≡ Some (owes config past link next command sofar payload number)) (p : pending past ≡ Some command)
+      (s : sent_on past ≡ Some link) (formed : client_reply command.kind prepared_handle sofar ≡ told past) where
+    abbrev its_part : Part
+    its_part = part config past link next command sofar payload number rest
+
     abbrev item : Item
-    item = Replies link (part config past link next command payload number rest)
+    item = Replies link its_part
 
     abbrev answer : Option Progress → List Put
-    answer far = after_answer link command (part config past link next command payload number rest) far (reply_number past)
+    answer far =
+        after_answer link command (form config past link next command sofar payload number) far (is_some_byte rest) (reply_number past)
 
-    goes_awaited : (far : Option Progress) (other : ℕ) (mine : Option Exchange) (e : Exchange) → exchange other past ≡ mine
-        → goes_on_by far (part config past link next command payload number rest) mine ≡ Some e
+    goes_awaited : (far : Option Progress) (other : ℕ) (e : Exchange) → link ≡ other
+        → goes_on_by far its_part (Some (owes config past link next command sofar payload number)) ≡ Some e
         → AwaitedBy other e (pending past) (sent_on past) (told past) (answer far)
-    goes_awaited None other mine e m a = absurd cc
-    goes_awaited (Some (Ends outcome)) other mine e m a = absurd cc
-    goes_awaited (Some More) other None e m a = absurd cc
-    goes_awaited (Some More) other (Some before) e m a =
-        let awaited = sound.waits other before m in
+    goes_awaited None other e same g = absurd cc
+    goes_awaited (Some (Ends outcome)) other e same g = absurd cc
+    goes_awaited (Some More) other e same g =
+        let is : with_part its_part (owes config past link next command sofar payload number) ≡ e = same_some _ e g in
         record {
-          command = awaited.command;
-          is = subst (λ (x : Exchange). x ≡ record { purpose = Asks awaited.command; next = x.next; sofar = told past ++ payload ∷ [] })
-              (same_some (with_part (part config past link next command payload number rest) before) e a)
-              (ap (with_part (part config past link next command payload number rest)) (clean o before awaited.command awaited.is));
-          waits = awaited.waits;
-          sent_there = awaited.sent_there;
+          command = command;
+          is = subst (λ (x : Exchange). x ≡ record { purpose = Asks command; next = x.next; sofar = x.sofar }) is refl;
+          in_form = subst (λ (x : Exchange). client_reply command.kind prepared_handle x.sofar
+              ≡ told past ++ form config past link next command sofar payload number ∷ []) is
+              (grown config past link next command sofar payload number formed);
+          waits = p;
+          sent_there = s ∙ ap Some same;
         }
 
-    reply_waits : (far : Option Progress) → progress command.kind (told past) payload ≡ far
+    reply_waits : (far : Option Progress) → progress command.kind sofar payload ≡ far
         → WaitsBy (λ other. exchange other (item ∷ past)) (pending past) (sent_on past) (told past) (answer far)
     reply_waits far is = λ other e a. by_link other e (link == other) refl a
       where
         by_link : (other : ℕ) (e : Exchange) (same : Bool) → (link == other) ≡ same
-            → (if same then goes_on_by (progress command.kind (told past) payload) (part config past link next command payload number rest) (exchange other past) else exchange other past) ≡ Some e
+            → (if same then goes_on_by (progress command.kind sofar payload) its_part (exchange other past) else exchange other past) ≡ Some e
             → AwaitedBy other e (pending past) (sent_on past) (told past) (answer far)
-        by_link other e true t a =
-            goes_awaited far other (exchange other past) e refl
-            (sym (ap (λ (q : Option Progress). goes_on_by q (part config past link next command payload number rest) (exchange other past)) is) ∙ a)
+        by_link other e true t b =
+            let same : link ≡ other = eqb-true link other t in
+            let mine : exchange other past ≡ Some (owes config past link next command sofar payload number) =
+            subst (λ (l : ℕ). exchange l past ≡ Some (owes config past link next command sofar payload number)) same a in
+            goes_awaited far other e same
+            (sym (ap (λ (q : Option Progress). goes_on_by q its_part (Some (owes config past link next command sofar payload number))) is)
+            ∙ sym (ap (goes_on_by (progress command.kind sofar payload) its_part) mine) ∙ b)
         by_link other e false t a =
             let awaited = sound.waits other e a in
             let same : link ≡ other = same_some link other (sym s ∙ awaited.sent_there) in
@@ -281,10 +294,10 @@ module _ (config : Config) (past : List Item) (sound : Sound config past) where
 
     reply_sound : Contains (links past) link → Links (item ∷ past)
         → first_payload SERVER_PAYLOAD next (link_held link past) ≡ Whole payload number rest
-        → (far : Option Progress) → progress command.kind (told past) payload ≡ far → Sound config (item ∷ past)
+        → (far : Option Progress) → progress command.kind sofar payload ≡ far → Sound config (item ∷ past)
     reply_sound has one_link f far is =
         let owed_now : owed (item ∷ past) ≡ answer far =
-        ap (λ (e : Option Exchange). after_part link (part config past link next command payload number rest) e (reply_number past)) a
+        ap (λ (e : Option Exchange). after_part link its_part e (reply_number past)) a
         ∙ ap answer is in
         record {
           one_link = one_link;
@@ -294,7 +307,7 @@ module _ (config : Config) (past : List Item) (sound : Sound config past) where
           waits = subst (λ (list : List Put). WaitsBy (λ other. exchange other (item ∷ past)) (pending past) (sent_on past) (told past) list) (sym owed_now)
               (reply_waits far is);
           owes = subst (λ (list : List Put). Caused config list (item ∷ past)) (sym owed_now)
-              (reply_caused config past link next command payload number has a p s sound.telling (sound.asks command p) rest f far is);
+              (reply_caused config past link next command sofar payload number has a p s formed sound.telling (sound.asks command p) rest f far is);
         }
 
 -- Each step
@@ -306,10 +319,10 @@ module _ (config : Config) (past : List Item) (sound : Sound config past) (o : o
   reply_due link e payload rest number has a f =
       let awaited = sound.waits link e a in
       let one = goes_with_one o n sound.one_link in
-      let is = clean config past sound o e awaited.command awaited.is in
-      subst (λ (x : Exchange). Sound config (Replies link (part_of x payload number rest) ∷ past)) (sym is)
-      (reply_sound config past sound link e.next awaited.command payload rest number o (a ∙ ap Some is) awaited.waits awaited.sent_there
-      has (has_one one.0 one.1 one.2) f (progress awaited.command.kind (told past) payload) refl)
+      subst (λ (x : Exchange). Sound config (Replies link (part_of x payload number rest) ∷ past)) (sym awaited.is)
+      (reply_sound config past sound link e.next awaited.command e.sofar payload rest number o (a ∙ ap Some awaited.is) awaited.waits
+      awaited.sent_there (clean config past sound o e awaited.command awaited.in_form)
+      has (has_one one.0 one.1 one.2) f (progress awaited.command.kind e.sofar payload) refl)
 
   due_sound : {item : Item} → Due config past item → Sound config (item ∷ past)
   due_sound (replies {link = link} {e = e} {payload = payload} {rest = rest} {number = number} has a f) =
@@ -387,6 +400,28 @@ module _ (config : Config) (past : List Item) (sound : Sound config past) (o : o
   }
   input_sound _ input = absurd input
 
+-- too much came behind the pending command
+pub noted : {config : Config} {past : List Item} {command : Command} → pending past ≡ Some command
+    → flood_limit config < length (held config past) → Sound config past
+    → Flooded config (flood_limit config + 1) (Floods (flood_limit config + 1) ∷ past)
+noted {command = command} p above sound =
+    flooded command (record { waits = p; asked = (sound.asks command p).asked }) refl (omega arith)
+
+flood_sound : {config : Config} {past : List Item} {command : Command} → owed past ≡ [] → is_over past ≡ false
+    → pending past ≡ Some command → flood_limit config < length (held config past) → Sound config past
+    → Sound config (Floods (flood_limit config + 1) ∷ past)
+flood_sound {config} {past} o n p above sound =
+    let one = goes_with_one o n sound.one_link in
+    let bytes : ℕ = flood_limit config + 1 in
+    record {
+      one_link = has_one one.0 one.1 one.2;
+      sent = sound.sent;
+      telling = sound.telling;
+      asks = still_asked refl refl refl sound.asks;
+      waits = owes_same (owed past) (after_flood bytes) (ap passed o) sound.waits;
+      owes = flood_caused config bytes (Floods bytes ∷ past) (noted p above sound);
+    }
+
 step_sound : {config : Config} {past : List Item} {item : Item} → Step config past item → Sound config past
     → Sound config (item ∷ past)
 step_sound {config} {past} (pays {put = put} {others = others} o) sound =
@@ -394,6 +429,7 @@ step_sound {config} {past} (pays {put = put} {others = others} o) sound =
 step_sound {config} {past} (sends {link = link} {command = command} o n p s k c) sound =
     let one = goes_with_one o n sound.one_link in
     send_sound config past sound link command o p s one.0 one.1 one.2 k
+step_sound (floods o n p above) sound = flood_sound o n p above sound
 step_sound {config} {past} (reads o n due) sound = due_sound config past sound o n due
 
 begun_sound : (config : Config) (link server : ℕ) → Sound config (Began link server ∷ [])
@@ -406,8 +442,11 @@ begun_sound config link server = record {
   owes = nothing;
 }
 
-pub legal_sound : {config : Config} {past : List Item} → IsRecord config past → Sound config past
-legal_sound {config} (begins link server) = begun_sound config link server
-legal_sound {config} (steps {past = past} {item = item} legal e) = step_sound (of_next config past item e) (legal_sound legal)
-legal_sound {config} (hears {past = past} {item = item} legal rests n input) =
-    input_sound config past (legal_sound legal) (rests_owing_nothing config past rests) n item input
+-- until memory is wanting
+pub legal_sound : {config : Config} {past : List Item} → IsRecord config past → is_starved past ≡ false → Sound config past
+legal_sound {config} (begins link server) fed = begun_sound config link server
+legal_sound {config} (steps {past = past} {item = item} legal e) fed =
+    let step = of_next config past item e in step_sound step (legal_sound legal (sym (step_starved step) ∙ fed))
+legal_sound {config} (hears {past = past} {item = item} legal rests n input) fed =
+    input_sound config past (legal_sound legal (sym (input_starved past item input) ∙ fed)) (rests_owing_nothing config past rests) n item input
+legal_sound (starves legal once can) fed = absurd cc

@@ -1,31 +1,34 @@
 -- Why each item of a session's record stands where it stands. This is a second reading of the record: it says what must
 -- have come and what must have been given out below a place, and names no rule by which a session goes on.
-use Rattle.std.specs.Prelude.{◌≡◌, ◌≢◌, ◌⊎◌, ℕ, Bool, true, false, List, [], ◌∷◌, ◌++◌, Option, Some, None, Contains}
+use Rattle.std.specs.Prelude.{◌≡◌, ◌≢◌, ◌⊎◌, ℕ, ◌+◌, ◌≤◌, length, Bool, true, false, List, [], ◌∷◌, ◌++◌, ◌==◌, Option, Some, None, Contains, if◌then◌else◌}
 use Rattle.rws_wire.specs.Packets.{number_behind}
 use Rattle.rws_wire.specs.Payloads.{first_payload}
 use Rattle.rws_wire.specs.Payloads.Beginning.{Whole, Faulty}
 use Rattle.rws_wire.specs.declared.fault.WireFault.{WireFault}
 use Rattle.rws_wire.specs.declared.fault.WireFault.TheVariants as faults
-use Rattle.rws_wire.specs.declared.close_reason.CloseReason.TheVariants.{Quit, OutOfOrder, TooLarge, ResultCut, OutcomeUnknown, SessionState}
+use Rattle.rws_wire.specs.declared.close_reason.CloseReason.TheVariants.{Quit, OutOfOrder, TooLarge, ResultCut, OutcomeUnknown, SessionState, Memory}
+use Rattle.rws_wire.specs.declared.close_reason.CloseReason.TheVariants as reasons
 use Rattle.rws_wire.specs.declared.drop_cause.DropCause.TheVariants.{BadWire, BadReply, Unasked, End}
 use Rattle.rws_msgs.specs.declared.status.TheConstants.{AUTOCOMMIT}
 use Rattle.rws_reply.specs.declared.kind.Outcome.{Outcome}
 use Rattle.rws_reply.specs.Replies.{Payload, IsReply, Begins}
 use Rattle.rws_reply.specs.Tracking.{progress}
+use Rattle.rws_reply.specs.ClientForm.{client_reply}
 use Rattle.rws_config.specs.declared.config.Config.{Config}
-use Rattle.rws_config.specs.declared.limits.TheConstants.{SERVER_PAYLOAD}
+use Rattle.rws_config.specs.declared.limits.TheConstants.{FLOOD_ROOM, SERVER_PAYLOAD}
 use Rattle.rws_record.specs.declared.command.Command.{Command}
-use Rattle.rws_record.specs.declared.proxy_error.ProxyError.TheVariants.{UnknownCommand, NotSupported, PacketsOutOfOrder, CommandTooLarge}
+use Rattle.rws_record.specs.declared.proxy_error.ProxyError.TheVariants.{UnknownCommand, NotSupported, PacketsOutOfOrder, CommandTooLarge, OutOfMemory}
 use Rattle.rws_record.specs.declared.request.Request.TheVariants as requests
 use Rattle.rws_record.specs.Item.{Item, Put}
-use Rattle.rws_record.specs.Item.Item.{Began, LinkBytes, LinkLost, Replies, Garbles, Strays, Takes, TakesFault, Puts}
+use Rattle.rws_record.specs.Item.Item.{Began, LinkBytes, LinkLost, Replies, Garbles, Strays, Takes, TakesFault, Puts, Starves, Floods}
 use Rattle.rws_record.specs.Item.Judged.{Serves}
 use Rattle.rws_record.specs.Item.Put.{Tells, Sends, Drops, Closes}
 use Rattle.rws_record.specs.Item.Tell.{Passes, Owns, Refuses}
 use Rattle.rws_record.specs.Item.Purpose.{Asks}
 use Rattle.rws_record.specs.Requests.{request_of}
 use Rattle.rws_record.specs.Judging.{judged}
-use Rattle.rws_record.specs.Values.{held, links, kept_on, Exchange, exchange, kind_of, link_held, pending, sent_on, told, told_from, is_over}
+use Rattle.rws_record.specs.Values.{held, links, kept_on, Exchange, exchange, kind_of, prepared_handle, link_held, pending, sent_on, told, told_from, is_over, is_starved}
+use Rattle.rws_record.specs.Record.{CanBeMade}
 
 -- What came of the client
 
@@ -53,11 +56,25 @@ pub record IsPending (config : Config) (command : Command) (past : List Item) : 
   pub waits : pending past ≡ Some command
   pub asked : Asked config command past
 
+-- The record's newest item notes a flood: behind a command that isn't answered there are at least so many bytes of the client,
+-- which is one more than a command and the room beside it may have.
+pub data Flooded (config : Config) (bytes : ℕ) : List Item → Type 0 where
+  flooded : {past : List Item} (command : Command) → IsPending config command past
+      → bytes ≡ config.command_bytes + FLOOD_ROOM + 1 → bytes ≤ length (held config past)
+      → Flooded config bytes (Floods bytes ∷ past)
+
 -- What came of a link
 
--- the payload of a reply that came last, and its link
-abbrev pub replied : List Item → Option (ℕ × Payload)
-replied (Replies link part ∷ past) = Some (link, part.payload)
+-- the payloads that came on a link since something was last sent on it, as the server sent them
+abbrev pub came_on : ℕ → List Item → List Payload
+came_on link [] = []
+came_on link (Puts (Sends to purpose) ∷ past) = if to == link then [] else came_on link past
+came_on link (Replies from part ∷ past) = if from == link then came_on link past ++ part.payload ∷ [] else came_on link past
+came_on link (_ ∷ past) = came_on link past
+
+-- the link on which a payload of a reply came last
+abbrev pub replied : List Item → Option ℕ
+replied (Replies link part ∷ past) = Some link
 replied _ = None
 
 -- the fault of a link's packets that came last
@@ -77,10 +94,10 @@ lost _ = None
 abbrev pub HasStrayByte : ℕ → List Item → Type 0
 HasStrayByte link past = (byte : ℕ) × (rest : List ℕ) × (exchange link past ≡ None) × (link_held link past ≡ byte ∷ rest)
 
--- This payload came last, on the link on which the pending command was sent; all that the client was passed since it was
--- taken up came from there.
-pub record IsOfReply (config : Config) (link : ℕ) (command : Command) (payload : Payload) (past : List Item) : Type 0 where
-  pub came : replied past ≡ Some (link, payload)
+-- A payload came last, on the link on which the pending command was sent; all that the client was passed since it was taken
+-- up came from there.
+pub record IsOfReply (config : Config) (link : ℕ) (command : Command) (past : List Item) : Type 0 where
+  pub came : replied past ≡ Some link
   pub pending : IsPending config command past
   pub sent : sent_on past ≡ Some link
   pub one_link : (told past ≡ []) ⊎ (told_from past ≡ Some link)
@@ -90,18 +107,28 @@ abbrev pub number_behind_all : List Payload → ℕ → ℕ
 number_behind_all [] number = number
 number_behind_all (payload ∷ others) number = number_behind_all others (number_behind number payload)
 
+-- With this payload the client has been passed all that came of the pending command's reply, in its form: each OK without the
+-- session's state, and all else as the server sent it. The numbers count on from the command's.
+pub record IsPassed (config : Config) (number link : ℕ) (command : Command) (payload : Payload) (past : List Item) : Type 0 where
+  pub of_reply : IsOfReply config link command past
+  pub in_form : told past ++ payload ∷ [] ≡ client_reply command.kind prepared_handle (came_on link past)
+  pub counts : number ≡ number_behind_all (told past) command.number
+
+-- Memory was wanting just now: the session wasn't made, or else its client was told.
+abbrev pub IsStarvedAndTold : List Item → Type 0
+IsStarvedAndTold past =
+    (below : List Item) × ((past ≡ Starves false ∷ below) ⊎ (past ≡ Puts (Tells 1 (Refuses OutOfMemory)) ∷ Starves true ∷ below))
+
 -- Causes
 
 -- Why this may be given out next. What a session never gives out has no cause.
 abbrev pub IsCaused : Config → Put → List Item → Type 0
--- with it the client was told a whole reply with this outcome, or what a reply begins with; the numbers count on from the
--- command's
+-- what came is a whole reply with this outcome, or what a reply begins with
 IsCaused config (Tells number (Passes link command payload (Some outcome))) past =
-    IsOfReply config link command payload past × IsReply command.kind (told past ++ payload ∷ []) outcome
-    × (number ≡ number_behind_all (told past) command.number) × (exchange link past ≡ None)
+    IsPassed config number link command payload past × IsReply command.kind (came_on link past) outcome
+    × (exchange link past ≡ None)
 IsCaused config (Tells number (Passes link command payload None)) past =
-    IsOfReply config link command payload past × Begins command.kind (told past ++ payload ∷ [])
-    × (number ≡ number_behind_all (told past) command.number)
+    IsPassed config number link command payload past × Begins command.kind (came_on link past)
 -- COM_PING; autocommit is on, and no transaction is open
 IsCaused config (Tells number (Owns status)) past =
     (payload : Payload) × Took config payload number past × (request_of payload ≡ requests.Ping) × (status ≡ AUTOCOMMIT)
@@ -112,7 +139,11 @@ IsCaused config (Tells number (Refuses NotSupported)) past =
 IsCaused config (Tells number (Refuses PacketsOutOfOrder)) past =
     (want : ℕ) × (got : ℕ) × TookFault config (faults.OutOfOrder want got) past × (number ≡ 1)
 IsCaused config (Tells number (Refuses CommandTooLarge)) past =
-    (length : ℕ) × TookFault config (faults.TooLarge length) past × (number ≡ 1)
+    (((length : ℕ) × TookFault config (faults.TooLarge length) past) ⊎ ((bytes : ℕ) × Flooded config bytes past))
+    × (number ≡ 1)
+-- memory was wanting to a session that goes on
+IsCaused config (Tells number (Refuses OutOfMemory)) past =
+    (below : List Item) × (past ≡ Starves true ∷ below) × (is_over below ≡ false) × (number ≡ 1)
 IsCaused config (Tells number (Refuses _)) past = ⊥
 -- the client's command, on the link that the session is kept on, where it wasn't sent before
 IsCaused config (Sends link (Asks command)) past =
@@ -126,6 +157,9 @@ IsCaused config (Closes (OutOfOrder want got)) past =
 IsCaused config (Closes (TooLarge length)) past =
     (below : List Item) × (past ≡ Puts (Tells 1 (Refuses CommandTooLarge)) ∷ below)
     × TookFault config (faults.TooLarge length) below
+-- the flood was noted, and then the client was told
+IsCaused config (Closes (reasons.Flooded bytes)) past =
+    (below : List Item) × (past ≡ Puts (Tells 1 (Refuses CommandTooLarge)) ∷ below) × Flooded config bytes below
 -- the client has a part of the reply that the lost link was giving
 IsCaused config (Closes ResultCut) past =
     (link : ℕ) × (command : Command) × (lost past ≡ Some link) × IsPending config command past
@@ -137,14 +171,14 @@ IsCaused config (Closes OutcomeUnknown) past =
 -- no command was on the lost link, but the connection held what the session has set
 IsCaused config (Closes SessionState) past =
     (link : ℕ) × (lost past ≡ Some link) × (kept_on past ≡ Some link) × (sent_on past ≡ None)
+IsCaused config (Closes Memory) past = IsStarvedAndTold past
 IsCaused config (Closes _) past = ⊥
 IsCaused config (Drops link BadWire) past =
     (fault : WireFault) × (garbled past ≡ Some (link, fault)) × Contains (links past) link
--- behind what the client was told the payload neither ends a reply to the command nor leaves one to come
+-- what came neither is a reply to the command nor begins one
 IsCaused config (Drops link BadReply) past =
-    (command : Command) × (payload : Payload) × IsOfReply config link command payload past
-    × (¬ Begins command.kind (told past ++ payload ∷ []))
-    × ((outcome : Outcome) → ¬ IsReply command.kind (told past ++ payload ∷ []) outcome) × Contains (links past) link
+    (command : Command) × IsOfReply config link command past × (¬ Begins command.kind (came_on link past))
+    × ((outcome : Outcome) → ¬ IsReply command.kind (came_on link past) outcome) × Contains (links past) link
 IsCaused config (Drops link Unasked) past = HasStrayByte link past × Contains (links past) link
 IsCaused config (Drops link End) past = (is_over past ≡ true) × Contains (links past) link
 IsCaused config (Drops link _) past = ⊥
@@ -170,11 +204,13 @@ IsRead config (Garbles link fault) past =
 IsRead config (Strays link) past = HasStrayByte link past × Contains (links past) link
 IsRead config (Takes it number) past = (payload : Payload) × Took config payload number (Takes it number ∷ past)
 IsRead config (TakesFault fault) past = TookFault config fault (TakesFault fault ∷ past)
+IsRead config (Floods bytes) past = Flooded config bytes (Floods bytes ∷ past)
 IsRead config _ past = Unit {0}
 
 -- At each place of the record: what was given out has its cause, and all else came, or was read, while the session wasn't
--- over.
+-- over. Memory is wanting once at most, at any place; a session that isn't made for want of it has only begun.
 abbrev pub AreCaused : Config → List Item → Type 0
 AreCaused config [] = Unit {0}
 AreCaused config (Puts put ∷ past) = IsCaused config put past × AreCaused config past
+AreCaused config (Starves made ∷ past) = (is_starved past ≡ false) × CanBeMade made past × AreCaused config past
 AreCaused config (item ∷ past) = (is_over past ≡ false) × IsRead config item past × AreCaused config past

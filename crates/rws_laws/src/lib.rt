@@ -7,4 +7,4 @@
 
 mod law;
 
-pub use law::{causes, has_answered};
+pub use law::{causes, has_answered, replies_are_whole};

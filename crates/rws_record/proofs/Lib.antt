@@ -1,8 +1,11 @@
 -- how a record, and a run, goes on
 pub mod StepLemmas
+pub mod RestLemmas
 pub mod EntryLemmas
 -- the law that events determine the run
 pub mod OneRunLemmas
+-- want of memory ends a session
+pub mod WantLemmas
 -- runs over given events, computed
 pub mod WorkedRuns
 -- the laws on the records in a run

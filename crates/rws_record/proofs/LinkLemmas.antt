@@ -5,12 +5,12 @@ use Rattle.std.specs.Option.{option_map}
 use Rattle.std.proofs.lemmas.List.Elements.{Contains-append_cases}
 use Rattle.rws_config.specs.declared.config.Config.{Config}
 use Rattle.rws_record.specs.Item.{Item}
-use Rattle.rws_record.specs.Item.Item.{Began, ClientBytes, LinkBytes, ClientGone, LinkLost, Replies, Garbles, Strays, Takes, TakesFault, Puts}
+use Rattle.rws_record.specs.Item.Item.{Began, ClientBytes, LinkBytes, ClientGone, LinkLost, Replies, Garbles, Strays, Takes, TakesFault, Puts, Starves, Floods}
 use Rattle.rws_record.specs.Item.Put.{Tells, Sends, Drops, Closes}
 use Rattle.rws_record.specs.Values.{links, opens}
 use Rattle.rws_record.specs.Run.{Entry, IsRun, record_of, link_by, last_link}
 use Rattle.rws_record.specs.Run.Entry.{Heard}
-use Rattle.rws_record.specs.Run.IsRun.{starts, came, goes_on}
+use Rattle.rws_record.specs.Run.IsRun.{starts, came, goes_on, starves}
 use Rattle.rws_record.specs.Laws.{Apart}
 use Rattle.rws_record.proofs.StepLemmas.{of_next, step_opens_none, input_opens_none}
 use Rattle.rws_record.proofs.EntryLemmas.{Next, of_next_entry}
@@ -62,6 +62,8 @@ opened (Garbles from fault ∷ past) link has = below (opened past link has)
 opened (Strays from ∷ past) link has = below (opened past link has)
 opened (Takes judged number ∷ past) link has = below (opened past link has)
 opened (TakesFault fault ∷ past) link has = below (opened past link has)
+opened (Floods bytes ∷ past) link has = below (opened past link has)
+opened (Starves made ∷ past) link has = below (opened past link has)
 opened (Puts (Tells number tell) ∷ past) link has = below (opened past link has)
 opened (Puts (Sends to purpose) ∷ past) link has = below (opened past link has)
 opened (Puts (Drops given cause) ∷ past) link has = below (opened past link (filtered _ (links past) link has))
@@ -159,6 +161,9 @@ numbered_of starts = record { low = λ session link is. no_opening is; apart = �
 numbered_of (came {run = run} legal quiet) = opens_nothing (λ session link is. is) refl (numbered_of legal)
 numbered_of {config} (goes_on {run = run} {entry = entry} legal e) =
     next_numbered legal (of_next_entry config run entry e) (numbered_of legal)
+numbered_of (starves {run = run} {session = session} {made = made} legal h once can) =
+    opens_nothing (λ other link. with_item run session other link (Starves made) refl) (last_by (Starves made) session (last_link run) refl)
+    (numbered_of legal)
 
 pub apart : Apart
 apart config run legal one other link has also =

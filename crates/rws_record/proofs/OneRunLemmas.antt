@@ -1,11 +1,13 @@
--- A run read from its start: what it went through, oldest first. Each entry but an event is determined, so there is one
--- run over a list of events.
-use Rattle.std.proofs.Common.{◌≡◌, List, [], ◌∷◌, ◌++◌, refl, sym, ap, subst, Some, None}
+-- A run read from its start: what it went through, oldest first. Where memory is never wanting each entry but an event is
+-- determined, so there is one run over a list of events.
+use Rattle.std.proofs.Common.{◌≡◌, true, List, [], ◌∷◌, ◌++◌, refl, sym, ap, subst, Some, None}
+use Rattle.std.specs.Prelude.{not}
+use Rattle.std.proofs.lemmas.Bool.{and_parts}
 use Rattle.rws_board.specs.declared.event.Event.{Event}
 use Rattle.rws_config.specs.declared.config.Config.{Config}
-use Rattle.rws_record.specs.Run.{Entry, IsRun, next_entry, events_of, done_in}
-use Rattle.rws_record.specs.Run.Entry.{Came}
-use Rattle.rws_record.specs.Run.IsRun.{starts, came as legal_came, goes_on as legal_goes_on}
+use Rattle.rws_record.specs.Run.{Entry, IsRun, is_ample, is_want, next_entry, events_of, done_in}
+use Rattle.rws_record.specs.Run.Entry.{Came, Heard, Did}
+use Rattle.rws_record.specs.Run.IsRun.{starts, came as legal_came, goes_on as legal_goes_on, starves as legal_starves}
 use Rattle.rws_record.specs.Laws.{OneRun, OneOutcome}
 use Rattle.rws_record.proofs.EntryLemmas.{of_next_entry, same_events}
 
@@ -31,12 +33,18 @@ then_came here q = came q here
 then_came (goes_on first rest) q = goes_on first (then_came rest q)
 then_came (came quiet rest) q = came quiet (then_came rest q)
 
-reached : {config : Config} {run : List Entry} → IsRun config run → Reaches config run [] (events_of run)
-reached starts = here
-reached (legal_came before quiet) = then_came (reached before) quiet
-reached {config} (legal_goes_on {run = run} {entry = entry} before next) =
+ample_below : (entry : Entry) (run : List Entry) → is_ample (entry ∷ run) ≡ true → is_ample run ≡ true
+ample_below (Came event) run ample = ample
+ample_below (Heard session item) run ample = ample
+ample_below (Did session item) run ample = (and_parts (not (is_want item)) (is_ample run) ample).1
+
+reached : {config : Config} {run : List Entry} → IsRun config run → is_ample run ≡ true → Reaches config run [] (events_of run)
+reached starts ample = here
+reached (legal_came before quiet) ample = then_came (reached before ample) quiet
+reached {config} (legal_goes_on {run = run} {entry = entry} before next) ample =
     subst (λ (events : List Event). Reaches config (entry ∷ run) [] events) (sym (same_events (of_next_entry config run entry next)))
-    (then_goes_on (reached before) next)
+    (then_goes_on (reached before (ample_below entry run ample)) next)
+reached (legal_starves before hears once made) ample = absurd cc
 
 -- the same entry leads to the same run
 as_entry : {config : Config} {end run : List Entry} {one other : Entry} {events : List Event} → other ≡ one
@@ -57,10 +65,10 @@ same_end (came quiet rest) (goes_on first rest_b) rests_a rests_b = absurd cc
 same_end (came quiet rest) (came also rest_b) rests_a rests_b = same_end rest rest_b rests_a rests_b
 
 pub one_run : OneRun
-one_run config events a b over also =
-    let reached_a : Reaches config a [] events = subst (λ (list : List Event). Reaches config a [] list) over.heard (reached over.legal) in
-    let reached_b : Reaches config b [] events = subst (λ (list : List Event). Reaches config b [] list) also.heard (reached also.legal) in
+one_run config events a b over also ample_a ample_b =
+    let reached_a : Reaches config a [] events = subst (λ (list : List Event). Reaches config a [] list) over.heard (reached over.legal ample_a) in
+    let reached_b : Reaches config b [] events = subst (λ (list : List Event). Reaches config b [] list) also.heard (reached also.legal ample_b) in
     same_end reached_a reached_b over.rests also.rests
 
 pub one_outcome : OneOutcome
-one_outcome config events a b over also = ap done_in (one_run config events a b over also)
+one_outcome config events a b over also ample_a ample_b = ap done_in (one_run config events a b over also ample_a ample_b)

@@ -2,20 +2,20 @@
 use Rattle.std.proofs.Common.{◌≡◌, ℕ, suc, ◌+◌, ◌<◌, max, Bool, true, false, List, [], ◌∷◌, refl, sym, ap, subst, ◌∙◌, arith, inl, inr, Option, Some, None}
 use Rattle.std.specs.Prelude.{◌⊎◌, Contains, nat_lt, ◌==◌, ◌&&◌, not, length, if◌then◌else◌}
 use Rattle.std.specs.Option.{option_map}
-use Rattle.std.proofs.lemmas.Bool.{ltb-true, eqb-true, eqb-false}
+use Rattle.std.proofs.lemmas.Bool.{ltb-true, eqb-true, eqb-false, eq-eqb}
 use Rattle.rws_wire.specs.Payloads.{payload_behind, first_payload}
 use Rattle.rws_board.specs.declared.event.Event.{Event}
 use Rattle.rws_board.specs.declared.event.Event.TheVariants as events
 use Rattle.rws_config.specs.declared.config.Config.{Config}
 use Rattle.rws_record.specs.Item.{Item}
-use Rattle.rws_record.specs.Item.Item.{Began, ClientBytes, LinkBytes, ClientGone, LinkLost}
-use Rattle.rws_record.specs.Values.{links, is_over, contains}
+use Rattle.rws_record.specs.Item.Item.{Began, ClientBytes, LinkBytes, ClientGone, LinkLost, Starves}
+use Rattle.rws_record.specs.Values.{links, is_over, is_starved, contains}
 use Rattle.rws_record.specs.Rules.{next}
-use Rattle.rws_record.specs.Record.{IsRecord, IsInput}
-use Rattle.rws_record.specs.Record.IsRecord.{begins, steps, hears}
+use Rattle.rws_record.specs.Record.{IsRecord, IsInput, CanBeMade}
+use Rattle.rws_record.specs.Record.IsRecord.{begins, steps, hears, starves}
 use Rattle.rws_record.specs.Run.{Entry, IsRun, next_entry, record_of, is_live, begun_by, greatest, last_link, owner, if_so, told_by, told_on, untold, hearer, step_of}
 use Rattle.rws_record.specs.Run.Entry.{Came, Heard, Did}
-use Rattle.rws_record.specs.Run.IsRun.{starts, came, goes_on}
+use Rattle.rws_record.specs.Run.IsRun.{starts, came, goes_on, starves as run_starves}
 use Rattle.rws_record.specs.Laws.{Records}
 use Rattle.rws_record.proofs.EntryLemmas.{Next, of_next_entry, rests}
 use Rattle.rws_record.proofs.EntryLemmas.Next.{did, heard}
@@ -242,6 +242,41 @@ next_each : {config : Config} {run : List Entry} {entry : Entry} → Each config
 next_each each (did h is_next) = did_each each h is_next
 next_each each (heard quiet u) = heard_each each quiet u (first_of each.tells u)
 
+-- Memory is wanting
+
+-- the session that heard of the last event has begun
+hearer_began : (run : List Entry) (session : ℕ) → hearer run ≡ Some session → record_of session run ≡ [] → ⊥
+hearer_began [] session h none = absurd cc
+hearer_began (Came event ∷ run) session h none = absurd cc
+hearer_began (Heard its item ∷ run) session h none =
+    let same : its ≡ session = cc in
+    let none : item ∷ record_of session run ≡ [] = rw (eq-eqb its session same) at none in
+    absurd cc
+hearer_began (Did its item ∷ run) session h none =
+    one_more (λ past. past ≡ [] → ⊥) its session item (record_of session run) (λ _ e. absurd cc) (λ _. hearer_began run session h) none
+
+starved_legal : {config : Config} (past : List Item) (made : Bool) → (past ≡ [] → ⊥) → is_starved past ≡ false → CanBeMade made past
+    → (past ≡ []) ⊎ IsRecord config past → IsRecord config (Starves made ∷ past)
+starved_legal past made began once can (inl none) = absurd (began none)
+starved_legal past made began once can (inr legal) = starves legal once can
+
+starved_each : {config : Config} {run : List Entry} {session : ℕ} {made : Bool} → Each config run → hearer run ≡ Some session
+    → is_starved (record_of session run) ≡ false → CanBeMade made (record_of session run)
+    → Each config (Did session (Starves made) ∷ run)
+starved_each {config} {run} {session} {made} each h once can = record {
+  rests = λ other not_it. one_more (λ past. next config past ≡ None) session other (Starves made) (record_of other run)
+      (λ same. absurd (not_it (h ∙ ap Some same))) (λ _. each.rests other not_it);
+  unborn = λ other above. one_more (λ past. past ≡ []) session other (Starves made) (record_of other run)
+      (λ same. absurd (hearer_began run session h (rw (← same) at (each.unborn other above))))
+      (λ _. each.unborn other above);
+  legal = λ other. one_more (λ past. (past ≡ []) ⊎ IsRecord config past) session other (Starves made) (record_of other run)
+      (λ same. inr (subst (λ (number : ℕ). IsRecord config (Starves made ∷ record_of number run)) same
+      (starved_legal (record_of session run) made (hearer_began run session h) once can (each.legal session))))
+      (λ _. each.legal other);
+  tells = rw (each.told session h) nothing;
+  told = λ other _. each.told session h;
+}
+
 pub each_of : {config : Config} {run : List Entry} → IsRun config run → Each config run
 each_of {config} starts = record {
   rests = λ session _. nothing_at_first config;
@@ -252,6 +287,7 @@ each_of {config} starts = record {
 }
 each_of (came legal quiet) = came_each (each_of legal) quiet
 each_of {config} (goes_on {run = run} {entry = entry} legal e) = next_each (each_of legal) (of_next_entry config run entry e)
+each_of (run_starves legal h once can) = starved_each (each_of legal) h once can
 
 pub records : Records
 records config run legal session = (each_of legal).legal session

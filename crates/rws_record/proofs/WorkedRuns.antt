@@ -2,7 +2,7 @@
 -- rules, or by a model that shares nothing with this one. Bytes are written as in a trace.
 use Rattle.std.proofs.Common.{◌≡◌, ℕ, suc, zero, ◌+◌, ◌-◌, ◌*◌, Bool, true, false, List, [], ◌∷◌, ◌++◌, refl, sym, ap, ◌∙◌, append_assoc, append-nil, subst, Option, Some, None, codes}
 use Rattle.std.specs.Prelude.{nat_lt, ◌&&◌, if◌then◌else◌}
-use Rattle.rws_wire.specs.declared.close_reason.CloseReason.TheVariants.{Quit, OutOfOrder, ResultCut, OutcomeUnknown, SessionState}
+use Rattle.rws_wire.specs.declared.close_reason.CloseReason.TheVariants.{Quit, OutOfOrder, ResultCut, OutcomeUnknown, SessionState, Memory}
 use Rattle.rws_wire.specs.declared.drop_cause.DropCause.TheVariants.{BadWire, BadReply, Unasked, End as AtEnd}
 use Rattle.rws_wire.specs.Lenenc.{lenenc, lenenc_bytes}
 use Rattle.rws_wire.specs.Packets.{full_packet, spelling, number_behind}
@@ -13,15 +13,19 @@ use Rattle.rws_msgs.specs.Fields.{bytes_at, number_at, fixed_at, lenenc_at, text
 use Rattle.rws_msgs.specs.OkLayout.{state_at, texts_at, ok_at, ok_status, texts_bytes, ok_bytes}
 use Rattle.rws_msgs.specs.PrepareOkLayout.{prepare_ok_at}
 use Rattle.rws_reply.specs.Payloads.{eof_status, prepared_counts, column_count, is_definition, is_row}
-use Rattle.rws_reply.specs.Tracking.{progress}
+use Rattle.rws_reply.specs.Tracking.{progress, role}
+use Rattle.rws_reply.specs.ClientForm.{client_ok, client_form}
 use Rattle.rws_board.specs.declared.action.Action.{Action}
 use Rattle.rws_board.specs.declared.action.Action.TheVariants.{ToClient, ToLink, Drop, Close}
 use Rattle.rws_board.specs.declared.event.Event.{Event}
 use Rattle.rws_board.specs.declared.event.Event.TheVariants.{Begin, ClientBytes, ClientGone, LinkBytes, LinkGone, End}
 use Rattle.rws_config.specs.BuiltIn.{built_in}
-use Rattle.rws_record.specs.Run.{Entry, IsRun, IsRunOver, next_entry, events_of, done_in}
-use Rattle.rws_record.specs.Run.Entry.{Came}
-use Rattle.rws_record.specs.Run.IsRun.{starts, came, goes_on}
+use Rattle.rws_record.specs.Item.Item.{Starves}
+use Rattle.rws_record.specs.Values.{is_starved}
+use Rattle.rws_record.specs.Record.{CanBeMade}
+use Rattle.rws_record.specs.Run.{Entry, IsRun, IsRunOver, hearer, record_of, next_entry, events_of, done_in}
+use Rattle.rws_record.specs.Run.Entry.{Came, Did}
+use Rattle.rws_record.specs.Run.IsRun.{starts, came, goes_on, starves}
 use Rattle.rws_record.proofs.EntryLemmas.{of_next_entry, same_events}
 
 -- The run over events, computed
@@ -105,6 +109,42 @@ does_in : (fuel : ℕ) {events : List Event} {actions : List Action} → is_sett
 does_in fuel {events} settles does =
     record { run = over fuel events []; legal = legal_over fuel events [] starts settles; does = does }
 
+-- Memory is wanting to a session, so many entries behind an event
+
+abbrev until : ℕ → List Event → Event → List Entry
+until steps before event = settled steps (Came event ∷ over 16 before [])
+
+abbrev wanting : ℕ → ℕ → Bool → List Event → Event → List Entry
+wanting steps session made before event = settled 16 (Did session (Starves made) ∷ until steps before event)
+
+module _ (steps session : ℕ) (made : Bool) (before : List Event) (event : Event) (after : List Event) (actions : List Action)
+    (settles : is_settled 16 before [] ≡ true) (hears : hearer (until steps before event) ≡ Some session)
+    (once : is_starved (record_of session (until steps before event)) ≡ false)
+    (can : CanBeMade made (record_of session (until steps before event)))
+    (settles_after : is_settled 16 after (wanting steps session made before event) ≡ true)
+    (does : done_in (over 16 after (wanting steps session made before event)) ≡ actions) where
+  start : IsRunOver built_in before (over 16 before [])
+  start = legal_over 16 before [] starts settles
+
+  now_legal : IsRun built_in (wanting steps session made before event)
+  now_legal =
+      settled_legal 16 (Did session (Starves made) ∷ until steps before event)
+      (starves (settled_legal steps (Came event ∷ over 16 before []) (came start.legal start.rests)) hears once can)
+
+  heard : events_of (wanting steps session made before event) ≡ before ++ event ∷ []
+  heard =
+      settled_events 16 (Did session (Starves made) ∷ until steps before event)
+      ∙ settled_events steps (Came event ∷ over 16 before [])
+      ∙ ap (λ (list : List Event). list ++ event ∷ []) start.heard
+
+  wants_in : Does ((before ++ event ∷ []) ++ after) actions
+  wants_in = record {
+    run = over 16 after (wanting steps session made before event);
+    legal = subst (λ (list : List Event). IsRunOver built_in (list ++ after) (over 16 after (wanting steps session made before event))) heard
+        (legal_over 16 after (wanting steps session made before event) now_legal settles_after);
+    does = does;
+  }
+
 -- Events and actions with bytes as a trace writes them
 
 abbrev digit : ℕ → ℕ
@@ -131,26 +171,26 @@ to_link link digits = ToLink link (hex digits)
 nothing_happens : Does
     (End ∷ [])
     []
-unfolding lenenc lenenc_bytes full_packet spelling number_behind payload_behind first_payload eof_at err_at err_code err_bytes bytes_at number_at fixed_at lenenc_at text_at text_bytes ended state_at texts_at ok_at ok_status texts_bytes ok_bytes prepare_ok_at eof_status prepared_counts column_count is_definition is_row progress
+unfolding lenenc lenenc_bytes full_packet spelling number_behind payload_behind first_payload eof_at err_at err_code err_bytes bytes_at number_at fixed_at lenenc_at text_at text_bytes ended state_at texts_at ok_at ok_status texts_bytes ok_bytes prepare_ok_at eof_status prepared_counts column_count is_definition is_row progress role client_ok client_form
 nothing_happens = does_in 16 refl refl
 
 ping : Does
     (Begin 1 0 ∷ from_client 1 (codes "010000000e") ∷ End ∷ [])
     (to_client 1 (codes "0700000100000002000000") ∷ [])
-unfolding lenenc lenenc_bytes full_packet spelling number_behind payload_behind first_payload eof_at err_at err_code err_bytes bytes_at number_at fixed_at lenenc_at text_at text_bytes ended state_at texts_at ok_at ok_status texts_bytes ok_bytes prepare_ok_at eof_status prepared_counts column_count is_definition is_row progress
+unfolding lenenc lenenc_bytes full_packet spelling number_behind payload_behind first_payload eof_at err_at err_code err_bytes bytes_at number_at fixed_at lenenc_at text_at text_bytes ended state_at texts_at ok_at ok_status texts_bytes ok_bytes prepare_ok_at eof_status prepared_counts column_count is_definition is_row progress role client_ok client_form
 ping = does_in 16 refl refl
 
 two_pings_in_one_piece : Does
     (Begin 1 0 ∷ from_client 1 (codes "010000000e010000000e") ∷ End ∷ [])
     (to_client 1 (codes "0700000100000002000000") ∷ to_client 1 (codes "0700000100000002000000") ∷ [])
-unfolding lenenc lenenc_bytes full_packet spelling number_behind payload_behind first_payload eof_at err_at err_code err_bytes bytes_at number_at fixed_at lenenc_at text_at text_bytes ended state_at texts_at ok_at ok_status texts_bytes ok_bytes prepare_ok_at eof_status prepared_counts column_count is_definition is_row progress
+unfolding lenenc lenenc_bytes full_packet spelling number_behind payload_behind first_payload eof_at err_at err_code err_bytes bytes_at number_at fixed_at lenenc_at text_at text_bytes ended state_at texts_at ok_at ok_status texts_bytes ok_bytes prepare_ok_at eof_status prepared_counts column_count is_definition is_row progress role client_ok client_form
 two_pings_in_one_piece = does_in 16 refl refl
 
 ping_in_five_pieces : Does
     (Begin 1 0 ∷ from_client 1 (codes "01") ∷ from_client 1 (codes "00") ∷ from_client 1 (codes "00") ∷
     from_client 1 (codes "00") ∷ from_client 1 (codes "0e") ∷ End ∷ [])
     (to_client 1 (codes "0700000100000002000000") ∷ [])
-unfolding lenenc lenenc_bytes full_packet spelling number_behind payload_behind first_payload eof_at err_at err_code err_bytes bytes_at number_at fixed_at lenenc_at text_at text_bytes ended state_at texts_at ok_at ok_status texts_bytes ok_bytes prepare_ok_at eof_status prepared_counts column_count is_definition is_row progress
+unfolding lenenc lenenc_bytes full_packet spelling number_behind payload_behind first_payload eof_at err_at err_code err_bytes bytes_at number_at fixed_at lenenc_at text_at text_bytes ended state_at texts_at ok_at ok_status texts_bytes ok_bytes prepare_ok_at eof_status prepared_counts column_count is_definition is_row progress role client_ok client_form
 ping_in_five_pieces = does_in 16 refl refl
 
 -- the fault shows at the header, and what was sent before it is answered
@@ -159,7 +199,7 @@ out_of_order : Does
     (to_client 1 (codes "0700000100000002000000") ∷
     to_client 1 (codes "1d000001ff84042330385330317061636b657473206f7574206f66206f72646572") ∷
     Close 1 (OutOfOrder 0 1) ∷ Drop 1 AtEnd ∷ [])
-unfolding lenenc lenenc_bytes full_packet spelling number_behind payload_behind first_payload eof_at err_at err_code err_bytes bytes_at number_at fixed_at lenenc_at text_at text_bytes ended state_at texts_at ok_at ok_status texts_bytes ok_bytes prepare_ok_at eof_status prepared_counts column_count is_definition is_row progress
+unfolding lenenc lenenc_bytes full_packet spelling number_behind payload_behind first_payload eof_at err_at err_code err_bytes bytes_at number_at fixed_at lenenc_at text_at text_bytes ended state_at texts_at ok_at ok_status texts_bytes ok_bytes prepare_ok_at eof_status prepared_counts column_count is_definition is_row progress role client_ok client_form
 out_of_order = does_in 16 refl refl
 
 -- a command of no name, an empty one, and the end
@@ -169,7 +209,7 @@ unknown_then_quit : Does
     (to_client 1 (codes "18000001ff1704233038533031756e6b6e6f776e20636f6d6d616e64") ∷
     to_client 1 (codes "18000001ff1704233038533031756e6b6e6f776e20636f6d6d616e64") ∷ Close 1 Quit ∷
     Drop 1 AtEnd ∷ [])
-unfolding lenenc lenenc_bytes full_packet spelling number_behind payload_behind first_payload eof_at err_at err_code err_bytes bytes_at number_at fixed_at lenenc_at text_at text_bytes ended state_at texts_at ok_at ok_status texts_bytes ok_bytes prepare_ok_at eof_status prepared_counts column_count is_definition is_row progress
+unfolding lenenc lenenc_bytes full_packet spelling number_behind payload_behind first_payload eof_at err_at err_code err_bytes bytes_at number_at fixed_at lenenc_at text_at text_bytes ended state_at texts_at ok_at ok_status texts_bytes ok_bytes prepare_ok_at eof_status prepared_counts column_count is_definition is_row progress role client_ok client_form
 unknown_then_quit = does_in 16 refl refl
 
 -- COM_SET_OPTION, COM_STMT_FETCH and COM_RESET_CONNECTION
@@ -179,14 +219,14 @@ not_supported : Does
     (to_client 1 (codes "16000001ffd3042334323030306e6f7420737570706f72746564") ∷
     to_client 1 (codes "16000001ffd3042334323030306e6f7420737570706f72746564") ∷
     to_client 1 (codes "16000001ffd3042334323030306e6f7420737570706f72746564") ∷ [])
-unfolding lenenc lenenc_bytes full_packet spelling number_behind payload_behind first_payload eof_at err_at err_code err_bytes bytes_at number_at fixed_at lenenc_at text_at text_bytes ended state_at texts_at ok_at ok_status texts_bytes ok_bytes prepare_ok_at eof_status prepared_counts column_count is_definition is_row progress
+unfolding lenenc lenenc_bytes full_packet spelling number_behind payload_behind first_payload eof_at err_at err_code err_bytes bytes_at number_at fixed_at lenenc_at text_at text_bytes ended state_at texts_at ok_at ok_status texts_bytes ok_bytes prepare_ok_at eof_status prepared_counts column_count is_definition is_row progress role client_ok client_form
 not_supported = does_in 16 refl refl
 
 answered_then_lost : Does
     (Begin 1 0 ∷ from_client 1 (codes "020000000378") ∷ on_link 1 (codes "0700000100000002000000") ∷ LinkGone 1 ∷
     End ∷ [])
     (to_link 1 (codes "020000000378") ∷ to_client 1 (codes "0700000100000002000000") ∷ Close 1 SessionState ∷ [])
-unfolding lenenc lenenc_bytes full_packet spelling number_behind payload_behind first_payload eof_at err_at err_code err_bytes bytes_at number_at fixed_at lenenc_at text_at text_bytes ended state_at texts_at ok_at ok_status texts_bytes ok_bytes prepare_ok_at eof_status prepared_counts column_count is_definition is_row progress
+unfolding lenenc lenenc_bytes full_packet spelling number_behind payload_behind first_payload eof_at err_at err_code err_bytes bytes_at number_at fixed_at lenenc_at text_at text_bytes ended state_at texts_at ok_at ok_status texts_bytes ok_bytes prepare_ok_at eof_status prepared_counts column_count is_definition is_row progress role client_ok client_form
 answered_then_lost = does_in 16 refl refl
 
 -- the link is gone already, so it isn't dropped
@@ -194,7 +234,7 @@ lost_with_a_command : Does
     (Begin 1 0 ∷ from_client 1 (codes "020000000378") ∷ LinkGone 1 ∷ on_link 1 (codes "0700000100000002000000") ∷
     End ∷ [])
     (to_link 1 (codes "020000000378") ∷ Close 1 OutcomeUnknown ∷ [])
-unfolding lenenc lenenc_bytes full_packet spelling number_behind payload_behind first_payload eof_at err_at err_code err_bytes bytes_at number_at fixed_at lenenc_at text_at text_bytes ended state_at texts_at ok_at ok_status texts_bytes ok_bytes prepare_ok_at eof_status prepared_counts column_count is_definition is_row progress
+unfolding lenenc lenenc_bytes full_packet spelling number_behind payload_behind first_payload eof_at err_at err_code err_bytes bytes_at number_at fixed_at lenenc_at text_at text_bytes ended state_at texts_at ok_at ok_status texts_bytes ok_bytes prepare_ok_at eof_status prepared_counts column_count is_definition is_row progress role client_ok client_form
 lost_with_a_command = does_in 16 refl refl
 
 -- what waits behind a command is taken up when its reply is whole
@@ -203,15 +243,35 @@ one_after_the_other : Does
     on_link 1 (codes "000002000000") ∷ End ∷ [])
     (to_link 1 (codes "020000000378") ∷ to_client 1 (codes "0700000100000002000000") ∷
     to_client 1 (codes "0700000100000002000000") ∷ Close 1 Quit ∷ Drop 1 AtEnd ∷ [])
-unfolding lenenc lenenc_bytes full_packet spelling number_behind payload_behind first_payload eof_at err_at err_code err_bytes bytes_at number_at fixed_at lenenc_at text_at text_bytes ended state_at texts_at ok_at ok_status texts_bytes ok_bytes prepare_ok_at eof_status prepared_counts column_count is_definition is_row progress
+unfolding lenenc lenenc_bytes full_packet spelling number_behind payload_behind first_payload eof_at err_at err_code err_bytes bytes_at number_at fixed_at lenenc_at text_at text_bytes ended state_at texts_at ok_at ok_status texts_bytes ok_bytes prepare_ok_at eof_status prepared_counts column_count is_definition is_row progress role client_ok client_form
 one_after_the_other = does_in 16 refl refl
+
+-- an OK that names the GTID 0-1-7 is passed on without the session's state, and without the status bit 0x4000 that tells of it
+ok_without_its_state : Does
+    (Begin 1 0 ∷ from_client 1 (codes "020000000378") ∷
+    on_link 1 (codes "1b0000010001000240000000120010096c6173745f6774696405302d312d37") ∷ End ∷ [])
+    (to_link 1 (codes "020000000378") ∷ to_client 1 (codes "0700000100010002000000") ∷ [])
+unfolding lenenc lenenc_bytes full_packet spelling number_behind payload_behind first_payload eof_at err_at err_code err_bytes bytes_at number_at fixed_at lenenc_at text_at text_bytes ended state_at texts_at ok_at ok_status texts_bytes ok_bytes prepare_ok_at eof_status prepared_counts column_count is_definition is_row progress role client_ok client_form
+ok_without_its_state = does_in 16 refl refl
+
+-- what stands where rows stand is a row, even if it could be read as such an OK; an EOF keeps its status
+row_like_an_ok : Does
+    (Begin 1 0 ∷ from_client 1 (codes "020000000378") ∷
+    on_link 1 (codes "010000010117000002036465660000000161000c2d000a000000fd000000000005000003fe00000200") ∷
+    on_link 1 (codes "070000040000000240000005000005fe00000240") ∷ End ∷ [])
+    (to_link 1 (codes "020000000378") ∷ to_client 1 (codes "0100000101") ∷
+    to_client 1 (codes "17000002036465660000000161000c2d000a000000fd0000000000") ∷
+    to_client 1 (codes "05000003fe00000200") ∷ to_client 1 (codes "0700000400000002400000") ∷
+    to_client 1 (codes "05000005fe00000240") ∷ [])
+unfolding lenenc lenenc_bytes full_packet spelling number_behind payload_behind first_payload eof_at err_at err_code err_bytes bytes_at number_at fixed_at lenenc_at text_at text_bytes ended state_at texts_at ok_at ok_status texts_bytes ok_bytes prepare_ok_at eof_status prepared_counts column_count is_definition is_row progress role client_ok client_form
+row_like_an_ok = does_in 16 refl refl
 
 error_of_a_server : Does
     (Begin 1 0 ∷ from_client 1 (codes "020000000378") ∷ on_link 1 (codes "0b000001ff7a042334325330326e6f") ∷
     from_client 1 (codes "010000000e") ∷ End ∷ [])
     (to_link 1 (codes "020000000378") ∷ to_client 1 (codes "0b000001ff7a042334325330326e6f") ∷
     to_client 1 (codes "0700000100000002000000") ∷ [])
-unfolding lenenc lenenc_bytes full_packet spelling number_behind payload_behind first_payload eof_at err_at err_code err_bytes bytes_at number_at fixed_at lenenc_at text_at text_bytes ended state_at texts_at ok_at ok_status texts_bytes ok_bytes prepare_ok_at eof_status prepared_counts column_count is_definition is_row progress
+unfolding lenenc lenenc_bytes full_packet spelling number_behind payload_behind first_payload eof_at err_at err_code err_bytes bytes_at number_at fixed_at lenenc_at text_at text_bytes ended state_at texts_at ok_at ok_status texts_bytes ok_bytes prepare_ok_at eof_status prepared_counts column_count is_definition is_row progress role client_ok client_form
 error_of_a_server = does_in 16 refl refl
 
 -- an EOF where a reply begins
@@ -219,7 +279,7 @@ no_reply : Does
     (Begin 1 1 ∷ from_client 1 (codes "020000000378") ∷
     on_link 1 (codes "05000001fe0000020017000002036465660000000161000c2d000a000000fd0000000000") ∷ End ∷ [])
     (to_link 1 (codes "020000000378") ∷ Drop 1 BadReply ∷ Close 1 OutcomeUnknown ∷ [])
-unfolding lenenc lenenc_bytes full_packet spelling number_behind payload_behind first_payload eof_at err_at err_code err_bytes bytes_at number_at fixed_at lenenc_at text_at text_bytes ended state_at texts_at ok_at ok_status texts_bytes ok_bytes prepare_ok_at eof_status prepared_counts column_count is_definition is_row progress
+unfolding lenenc lenenc_bytes full_packet spelling number_behind payload_behind first_payload eof_at err_at err_code err_bytes bytes_at number_at fixed_at lenenc_at text_at text_bytes ended state_at texts_at ok_at ok_status texts_bytes ok_bytes prepare_ok_at eof_status prepared_counts column_count is_definition is_row progress role client_ok client_form
 no_reply = does_in 16 refl refl
 
 -- packets are passed on as they are whole, however the bytes are cut
@@ -231,7 +291,7 @@ rows_in_parts : Does
     to_client 1 (codes "17000002036465660000000161000c2d000a000000fd0000000000") ∷
     to_client 1 (codes "05000003fe00000200") ∷ to_client 1 (codes "020000040136") ∷
     to_client 1 (codes "01000005fb") ∷ to_client 1 (codes "05000006fe00000200") ∷ [])
-unfolding lenenc lenenc_bytes full_packet spelling number_behind payload_behind first_payload eof_at err_at err_code err_bytes bytes_at number_at fixed_at lenenc_at text_at text_bytes ended state_at texts_at ok_at ok_status texts_bytes ok_bytes prepare_ok_at eof_status prepared_counts column_count is_definition is_row progress
+unfolding lenenc lenenc_bytes full_packet spelling number_behind payload_behind first_payload eof_at err_at err_code err_bytes bytes_at number_at fixed_at lenenc_at text_at text_bytes ended state_at texts_at ok_at ok_status texts_bytes ok_bytes prepare_ok_at eof_status prepared_counts column_count is_definition is_row progress role client_ok client_form
 rows_in_parts = does_in 16 refl refl
 
 error_behind_rows : Does
@@ -242,7 +302,7 @@ error_behind_rows : Does
     to_client 4 (codes "17000002036465660000000161000c2d000a000000fd0000000000") ∷
     to_client 4 (codes "05000003fe00000200") ∷ to_client 4 (codes "020000040135") ∷
     to_client 4 (codes "12000005ffbd0423485930303064656164206c6f636b") ∷ [])
-unfolding lenenc lenenc_bytes full_packet spelling number_behind payload_behind first_payload eof_at err_at err_code err_bytes bytes_at number_at fixed_at lenenc_at text_at text_bytes ended state_at texts_at ok_at ok_status texts_bytes ok_bytes prepare_ok_at eof_status prepared_counts column_count is_definition is_row progress
+unfolding lenenc lenenc_bytes full_packet spelling number_behind payload_behind first_payload eof_at err_at err_code err_bytes bytes_at number_at fixed_at lenenc_at text_at text_bytes ended state_at texts_at ok_at ok_status texts_bytes ok_bytes prepare_ok_at eof_status prepared_counts column_count is_definition is_row progress role client_ok client_form
 error_behind_rows = does_in 16 refl refl
 
 -- a reply goes on behind an EOF, and behind an OK, that announces another result
@@ -256,7 +316,7 @@ more_results : Does
     to_client 1 (codes "05000003fe00000a00") ∷ to_client 1 (codes "020000040135") ∷
     to_client 1 (codes "05000005fe00000a00") ∷ to_client 1 (codes "070000060000000a000000") ∷
     to_client 1 (codes "0700000700000002000000") ∷ to_client 1 (codes "0700000100000002000000") ∷ [])
-unfolding lenenc lenenc_bytes full_packet spelling number_behind payload_behind first_payload eof_at err_at err_code err_bytes bytes_at number_at fixed_at lenenc_at text_at text_bytes ended state_at texts_at ok_at ok_status texts_bytes ok_bytes prepare_ok_at eof_status prepared_counts column_count is_definition is_row progress
+unfolding lenenc lenenc_bytes full_packet spelling number_behind payload_behind first_payload eof_at err_at err_code err_bytes bytes_at number_at fixed_at lenenc_at text_at text_bytes ended state_at texts_at ok_at ok_status texts_bytes ok_bytes prepare_ok_at eof_status prepared_counts column_count is_definition is_row progress role client_ok client_form
 more_results = does_in 16 refl refl
 
 -- definitions without their number before them
@@ -267,7 +327,7 @@ field_list : Does
     (to_link 1 (codes "03000000047400") ∷
     to_client 1 (codes "18000001036465660000000161000c2d000a000000fd0000000000fb") ∷
     to_client 1 (codes "05000002fe00000200") ∷ to_client 1 (codes "0700000100000002000000") ∷ [])
-unfolding lenenc lenenc_bytes full_packet spelling number_behind payload_behind first_payload eof_at err_at err_code err_bytes bytes_at number_at fixed_at lenenc_at text_at text_bytes ended state_at texts_at ok_at ok_status texts_bytes ok_bytes prepare_ok_at eof_status prepared_counts column_count is_definition is_row progress
+unfolding lenenc lenenc_bytes full_packet spelling number_behind payload_behind first_payload eof_at err_at err_code err_bytes bytes_at number_at fixed_at lenenc_at text_at text_bytes ended state_at texts_at ok_at ok_status texts_bytes ok_bytes prepare_ok_at eof_status prepared_counts column_count is_definition is_row progress role client_ok client_form
 field_list = does_in 16 refl refl
 
 loss_cuts_a_result : Does
@@ -276,7 +336,7 @@ loss_cuts_a_result : Does
     from_client 1 (codes "010000000e") ∷ End ∷ [])
     (to_link 1 (codes "020000000378") ∷ to_client 1 (codes "0100000101") ∷
     to_client 1 (codes "17000002036465660000000161000c2d000a000000fd0000000000") ∷ Close 1 ResultCut ∷ [])
-unfolding lenenc lenenc_bytes full_packet spelling number_behind payload_behind first_payload eof_at err_at err_code err_bytes bytes_at number_at fixed_at lenenc_at text_at text_bytes ended state_at texts_at ok_at ok_status texts_bytes ok_bytes prepare_ok_at eof_status prepared_counts column_count is_definition is_row progress
+unfolding lenenc lenenc_bytes full_packet spelling number_behind payload_behind first_payload eof_at err_at err_code err_bytes bytes_at number_at fixed_at lenenc_at text_at text_bytes ended state_at texts_at ok_at ok_status texts_bytes ok_bytes prepare_ok_at eof_status prepared_counts column_count is_definition is_row progress role client_ok client_form
 loss_cuts_a_result = does_in 16 refl refl
 
 -- a packet under a wrong number
@@ -287,13 +347,13 @@ fault_cuts_a_result : Does
     (to_link 1 (codes "020000000378") ∷ to_client 4 (codes "0100000101") ∷
     to_client 4 (codes "17000002036465660000000161000c2d000a000000fd0000000000") ∷
     to_client 4 (codes "05000003fe00000200") ∷ Drop 1 BadWire ∷ Close 4 ResultCut ∷ [])
-unfolding lenenc lenenc_bytes full_packet spelling number_behind payload_behind first_payload eof_at err_at err_code err_bytes bytes_at number_at fixed_at lenenc_at text_at text_bytes ended state_at texts_at ok_at ok_status texts_bytes ok_bytes prepare_ok_at eof_status prepared_counts column_count is_definition is_row progress
+unfolding lenenc lenenc_bytes full_packet spelling number_behind payload_behind first_payload eof_at err_at err_code err_bytes bytes_at number_at fixed_at lenenc_at text_at text_bytes ended state_at texts_at ok_at ok_status texts_bytes ok_bytes prepare_ok_at eof_status prepared_counts column_count is_definition is_row progress role client_ok client_form
 fault_cuts_a_result = does_in 16 refl refl
 
 bad_wire : Does
     (Begin 1 0 ∷ from_client 1 (codes "020000000378") ∷ on_link 1 (codes "0700000200000002000000") ∷ End ∷ [])
     (to_link 1 (codes "020000000378") ∷ Drop 1 BadWire ∷ Close 1 OutcomeUnknown ∷ [])
-unfolding lenenc lenenc_bytes full_packet spelling number_behind payload_behind first_payload eof_at err_at err_code err_bytes bytes_at number_at fixed_at lenenc_at text_at text_bytes ended state_at texts_at ok_at ok_status texts_bytes ok_bytes prepare_ok_at eof_status prepared_counts column_count is_definition is_row progress
+unfolding lenenc lenenc_bytes full_packet spelling number_behind payload_behind first_payload eof_at err_at err_code err_bytes bytes_at number_at fixed_at lenenc_at text_at text_bytes ended state_at texts_at ok_at ok_status texts_bytes ok_bytes prepare_ok_at eof_status prepared_counts column_count is_definition is_row progress role client_ok client_form
 bad_wire = does_in 16 refl refl
 
 byte_behind_a_reply : Does
@@ -301,7 +361,7 @@ byte_behind_a_reply : Does
     End ∷ [])
     (to_link 1 (codes "020000000378") ∷ to_client 1 (codes "0700000100000002000000") ∷ Drop 1 Unasked ∷
     Close 1 SessionState ∷ [])
-unfolding lenenc lenenc_bytes full_packet spelling number_behind payload_behind first_payload eof_at err_at err_code err_bytes bytes_at number_at fixed_at lenenc_at text_at text_bytes ended state_at texts_at ok_at ok_status texts_bytes ok_bytes prepare_ok_at eof_status prepared_counts column_count is_definition is_row progress
+unfolding lenenc lenenc_bytes full_packet spelling number_behind payload_behind first_payload eof_at err_at err_code err_bytes bytes_at number_at fixed_at lenenc_at text_at text_bytes ended state_at texts_at ok_at ok_status texts_bytes ok_bytes prepare_ok_at eof_status prepared_counts column_count is_definition is_row progress role client_ok client_form
 byte_behind_a_reply = does_in 16 refl refl
 
 -- three sessions in turn, on the links 1, 2 and 3
@@ -315,7 +375,7 @@ three_sessions : Does
     to_client 5 (codes "0700000100000002000000") ∷ to_client 7 (codes "0700000100000003000000") ∷
     to_client 9 (codes "0700000100000002000000") ∷ Close 7 SessionState ∷ to_link 3 (codes "020000000378") ∷
     Drop 1 Unasked ∷ Close 5 SessionState ∷ Drop 3 AtEnd ∷ [])
-unfolding lenenc lenenc_bytes full_packet spelling number_behind payload_behind first_payload eof_at err_at err_code err_bytes bytes_at number_at fixed_at lenenc_at text_at text_bytes ended state_at texts_at ok_at ok_status texts_bytes ok_bytes prepare_ok_at eof_status prepared_counts column_count is_definition is_row progress
+unfolding lenenc lenenc_bytes full_packet spelling number_behind payload_behind first_payload eof_at err_at err_code err_bytes bytes_at number_at fixed_at lenenc_at text_at text_bytes ended state_at texts_at ok_at ok_status texts_bytes ok_bytes prepare_ok_at eof_status prepared_counts column_count is_definition is_row progress role client_ok client_form
 three_sessions = does_in 16 refl refl
 
 -- a fault on one session's link is none of the other session's business
@@ -324,7 +384,7 @@ one_link_breaks : Does
     on_link 1 (codes "01000002") ∷ on_link 2 (codes "0700000100000002000000") ∷ End ∷ [])
     (to_link 1 (codes "020000000378") ∷ to_link 2 (codes "020000000378") ∷ Drop 1 BadWire ∷
     Close 1 OutcomeUnknown ∷ to_client 2 (codes "0700000100000002000000") ∷ [])
-unfolding lenenc lenenc_bytes full_packet spelling number_behind payload_behind first_payload eof_at err_at err_code err_bytes bytes_at number_at fixed_at lenenc_at text_at text_bytes ended state_at texts_at ok_at ok_status texts_bytes ok_bytes prepare_ok_at eof_status prepared_counts column_count is_definition is_row progress
+unfolding lenenc lenenc_bytes full_packet spelling number_behind payload_behind first_payload eof_at err_at err_code err_bytes bytes_at number_at fixed_at lenenc_at text_at text_bytes ended state_at texts_at ok_at ok_status texts_bytes ok_bytes prepare_ok_at eof_status prepared_counts column_count is_definition is_row progress role client_ok client_form
 one_link_breaks = does_in 16 refl refl
 
 -- a client that is gone is told nothing more, and closes nothing
@@ -332,7 +392,7 @@ client_gone : Does
     (Begin 1 0 ∷ from_client 1 (codes "020000000378") ∷ ClientGone 1 ∷
     on_link 1 (codes "0700000100000002000000") ∷ from_client 1 (codes "010000000e") ∷ ClientGone 1 ∷ End ∷ [])
     (to_link 1 (codes "020000000378") ∷ Drop 1 AtEnd ∷ [])
-unfolding lenenc lenenc_bytes full_packet spelling number_behind payload_behind first_payload eof_at err_at err_code err_bytes bytes_at number_at fixed_at lenenc_at text_at text_bytes ended state_at texts_at ok_at ok_status texts_bytes ok_bytes prepare_ok_at eof_status prepared_counts column_count is_definition is_row progress
+unfolding lenenc lenenc_bytes full_packet spelling number_behind payload_behind first_payload eof_at err_at err_code err_bytes bytes_at number_at fixed_at lenenc_at text_at text_bytes ended state_at texts_at ok_at ok_status texts_bytes ok_bytes prepare_ok_at eof_status prepared_counts column_count is_definition is_row progress role client_ok client_form
 client_gone = does_in 16 refl refl
 
 -- a session that is over hears nothing, and its number isn't given again
@@ -340,7 +400,7 @@ session_over : Does
     (Begin 1 0 ∷ from_client 1 (codes "0100000001010000000e") ∷ from_client 1 (codes "010000000e") ∷
     on_link 1 (codes "00") ∷ LinkGone 1 ∷ ClientGone 1 ∷ Begin 1 0 ∷ from_client 1 (codes "010000000e") ∷ End ∷ [])
     (Close 1 Quit ∷ Drop 1 AtEnd ∷ [])
-unfolding lenenc lenenc_bytes full_packet spelling number_behind payload_behind first_payload eof_at err_at err_code err_bytes bytes_at number_at fixed_at lenenc_at text_at text_bytes ended state_at texts_at ok_at ok_status texts_bytes ok_bytes prepare_ok_at eof_status prepared_counts column_count is_definition is_row progress
+unfolding lenenc lenenc_bytes full_packet spelling number_behind payload_behind first_payload eof_at err_at err_code err_bytes bytes_at number_at fixed_at lenenc_at text_at text_bytes ended state_at texts_at ok_at ok_status texts_bytes ok_bytes prepare_ok_at eof_status prepared_counts column_count is_definition is_row progress role client_ok client_form
 session_over = does_in 16 refl refl
 
 -- a server that the settings don't have: no session begins and no link is opened, but the number is gone
@@ -348,5 +408,60 @@ no_such_server : Does
     (Begin 5 3 ∷ from_client 5 (codes "010000000e") ∷ Begin 4 0 ∷ from_client 4 (codes "010000000e") ∷ Begin 5 0 ∷
     from_client 5 (codes "010000000e") ∷ Begin 6 2 ∷ from_client 6 (codes "020000000378") ∷ End ∷ [])
     (to_link 1 (codes "020000000378") ∷ [])
-unfolding lenenc lenenc_bytes full_packet spelling number_behind payload_behind first_payload eof_at err_at err_code err_bytes bytes_at number_at fixed_at lenenc_at text_at text_bytes ended state_at texts_at ok_at ok_status texts_bytes ok_bytes prepare_ok_at eof_status prepared_counts column_count is_definition is_row progress
+unfolding lenenc lenenc_bytes full_packet spelling number_behind payload_behind first_payload eof_at err_at err_code err_bytes bytes_at number_at fixed_at lenenc_at text_at text_bytes ended state_at texts_at ok_at ok_status texts_bytes ok_bytes prepare_ok_at eof_status prepared_counts column_count is_definition is_row progress role client_ok client_form
 no_such_server = does_in 16 refl refl
+
+-- Runs in which memory is wanting
+
+-- in place of what would have been sent: the client is told, and another session goes on
+want_for_a_command : Does
+    (Begin 1 0 ∷ Begin 2 1 ∷ from_client 1 (codes "020000000378") ∷ from_client 1 (codes "010000000e") ∷
+    from_client 2 (codes "010000000e") ∷ on_link 1 (codes "0700000100000002000000") ∷ End ∷ [])
+    (to_client 1 (codes "16000001ff0d042348593030316f7574206f66206d656d6f7279") ∷ Close 1 Memory ∷ Drop 1 AtEnd ∷
+    to_client 2 (codes "0700000100000002000000") ∷ [])
+unfolding lenenc lenenc_bytes full_packet spelling number_behind payload_behind first_payload eof_at err_at err_code err_bytes bytes_at number_at fixed_at lenenc_at text_at text_bytes ended state_at texts_at ok_at ok_status texts_bytes ok_bytes prepare_ok_at eof_status prepared_counts column_count is_definition is_row progress
+want_for_a_command =
+    wants_in 2 1 true (Begin 1 0 ∷ Begin 2 1 ∷ []) (from_client 1 (codes "020000000378"))
+    (from_client 1 (codes "010000000e") ∷ from_client 2 (codes "010000000e") ∷
+    on_link 1 (codes "0700000100000002000000") ∷ End ∷ []) _ refl refl refl tt refl refl
+
+-- for what the session heard
+want_for_bytes : Does
+    (Begin 1 0 ∷ from_client 1 (codes "02") ∷ End ∷ [])
+    (to_client 1 (codes "16000001ff0d042348593030316f7574206f66206d656d6f7279") ∷ Close 1 Memory ∷ Drop 1 AtEnd ∷ [])
+unfolding lenenc lenenc_bytes full_packet spelling number_behind payload_behind first_payload eof_at err_at err_code err_bytes bytes_at number_at fixed_at lenenc_at text_at text_bytes ended state_at texts_at ok_at ok_status texts_bytes ok_bytes prepare_ok_at eof_status prepared_counts column_count is_definition is_row progress
+want_for_bytes = wants_in 1 1 true (Begin 1 0 ∷ []) (from_client 1 (codes "02")) (End ∷ []) _ refl refl refl tt refl refl
+
+-- behind a payload of a reply: what was told stands
+want_in_a_reply : Does
+    (Begin 1 0 ∷ from_client 1 (codes "020000000378") ∷
+    on_link 1 (codes "010000010117000002036465660000000161000c2d000a000000fd0000000000") ∷ End ∷ [])
+    (to_link 1 (codes "020000000378") ∷ to_client 1 (codes "0100000101") ∷
+    to_client 1 (codes "16000001ff0d042348593030316f7574206f66206d656d6f7279") ∷ Close 1 Memory ∷ Drop 1 AtEnd ∷ [])
+unfolding lenenc lenenc_bytes full_packet spelling number_behind payload_behind first_payload eof_at err_at err_code err_bytes bytes_at number_at fixed_at lenenc_at text_at text_bytes ended state_at texts_at ok_at ok_status texts_bytes ok_bytes prepare_ok_at eof_status prepared_counts column_count is_definition is_row progress role client_form
+want_in_a_reply =
+    wants_in 3 1 true (Begin 1 0 ∷ from_client 1 (codes "020000000378") ∷ [])
+    (on_link 1 (codes "010000010117000002036465660000000161000c2d000a000000fd0000000000")) (End ∷ []) _ refl refl refl tt refl refl
+
+-- its link is lost: what is owed for that is owed no more, and no link is left
+want_at_a_loss : Does
+    (Begin 1 0 ∷ LinkGone 1 ∷ End ∷ [])
+    (to_client 1 (codes "16000001ff0d042348593030316f7574206f66206d656d6f7279") ∷ Close 1 Memory ∷ [])
+unfolding lenenc lenenc_bytes full_packet spelling number_behind payload_behind first_payload eof_at err_at err_code err_bytes bytes_at number_at fixed_at lenenc_at text_at text_bytes ended state_at texts_at ok_at ok_status texts_bytes ok_bytes prepare_ok_at eof_status prepared_counts column_count is_definition is_row progress
+want_at_a_loss = wants_in 1 1 true (Begin 1 0 ∷ []) (LinkGone 1) (End ∷ []) _ refl refl refl tt refl refl
+
+-- a session that was closed already gives up its link
+want_behind_a_close : Does
+    (Begin 1 0 ∷ from_client 1 (codes "0100000001") ∷ End ∷ [])
+    (Close 1 Quit ∷ Drop 1 AtEnd ∷ [])
+unfolding lenenc lenenc_bytes full_packet spelling number_behind payload_behind first_payload eof_at err_at err_code err_bytes bytes_at number_at fixed_at lenenc_at text_at text_bytes ended state_at texts_at ok_at ok_status texts_bytes ok_bytes prepare_ok_at eof_status prepared_counts column_count is_definition is_row progress
+want_behind_a_close = wants_in 3 1 true (Begin 1 0 ∷ []) (from_client 1 (codes "0100000001")) (End ∷ []) _ refl refl refl tt refl refl
+
+-- for the session itself: its client is told nothing
+want_for_a_session : Does
+    (Begin 1 0 ∷ Begin 2 0 ∷ from_client 1 (codes "010000000e") ∷ from_client 2 (codes "010000000e") ∷ End ∷ [])
+    (Close 1 Memory ∷ Drop 1 AtEnd ∷ to_client 2 (codes "0700000100000002000000") ∷ [])
+unfolding lenenc lenenc_bytes full_packet spelling number_behind payload_behind first_payload eof_at err_at err_code err_bytes bytes_at number_at fixed_at lenenc_at text_at text_bytes ended state_at texts_at ok_at ok_status texts_bytes ok_bytes prepare_ok_at eof_status prepared_counts column_count is_definition is_row progress
+want_for_a_session =
+    wants_in 1 1 false [] (Begin 1 0) (Begin 2 0 ∷ from_client 1 (codes "010000000e") ∷ from_client 2 (codes "010000000e") ∷ End ∷ [])
+    _ refl refl refl tt refl refl

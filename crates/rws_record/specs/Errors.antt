@@ -2,7 +2,7 @@
 use Rattle.std.specs.Prelude.{ℕ, List, codes}
 use Rattle.rws_msgs.specs.declared.err_msg.ErrMsg.{ErrMsg}
 use Rattle.rws_record.specs.declared.proxy_error.ProxyError.{ProxyError}
-use Rattle.rws_record.specs.declared.proxy_error.ProxyError.TheVariants.{UnknownCommand, NotSupported, UnknownStatement, BadExecute, TooManyStatements, NotInReadOnly, PacketsOutOfOrder, CommandTooLarge}
+use Rattle.rws_record.specs.declared.proxy_error.ProxyError.TheVariants.{UnknownCommand, NotSupported, UnknownStatement, BadExecute, TooManyStatements, NotInReadOnly, PacketsOutOfOrder, CommandTooLarge, OutOfMemory}
 
 abbrev pub code_of : ProxyError → ℕ
 code_of UnknownCommand = 1047
@@ -13,6 +13,7 @@ code_of TooManyStatements = 1461
 code_of NotInReadOnly = 1235
 code_of PacketsOutOfOrder = 1156
 code_of CommandTooLarge = 1153
+code_of OutOfMemory = 1037
 
 abbrev pub state_of : ProxyError → List ℕ
 state_of UnknownCommand = codes "08S01"
@@ -23,6 +24,7 @@ state_of TooManyStatements = codes "42000"
 state_of NotInReadOnly = codes "42000"
 state_of PacketsOutOfOrder = codes "08S01"
 state_of CommandTooLarge = codes "08S01"
+state_of OutOfMemory = codes "HY001"
 
 abbrev pub text_of : ProxyError → List ℕ
 text_of UnknownCommand = codes "unknown command"
@@ -33,6 +35,7 @@ text_of TooManyStatements = codes "too many statements"
 text_of NotInReadOnly = codes "not in a read-only transaction"
 text_of PacketsOutOfOrder = codes "packets out of order"
 text_of CommandTooLarge = codes "command too large"
+text_of OutOfMemory = codes "out of memory"
 
 abbrev pub error_of : ProxyError → ErrMsg
 error_of error = record { code = code_of error; state = state_of error; text = text_of error }

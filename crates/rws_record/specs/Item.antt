@@ -14,7 +14,7 @@ pub data Purpose : Type 0 where
   -- the client asked for it
   Asks : Command → Purpose
 
--- a payload of a reply, where it came
+-- a payload of a reply, as the server sent it
 pub record Part : Type 0 where
   pub payload : List ℕ
   -- the number that the packet behind it is to have
@@ -26,7 +26,8 @@ pub record Part : Type 0 where
 
 -- what the client is told
 pub data Tell : Type 0 where
-  -- a payload of the reply that this link gives to the command; the last one with how the reply ended
+  -- a payload of the reply that this link gives to the command, in the client's form; the last one with how the server's
+  -- reply ended
   Passes : (link : ℕ) → Command → (payload : List ℕ) → Option Outcome → Tell
   -- the proxy's own OK
   Owns : (status : ℕ) → Tell
@@ -64,7 +65,11 @@ pub data Item : Type 0 where
   Garbles : (link : ℕ) → WireFault → Item
   Strays : (link : ℕ) → Item
   -- the session's own steps: it takes up the client's next command, whose reply begins with this number, or the fault of
-  -- the client's packets; and it gives something out
+  -- the client's packets; it notes that the client sent on, behind a command that isn't answered, until so many bytes were
+  -- held, which is one more than it may; and it gives something out
   Takes : Judged → (number : ℕ) → Item
   TakesFault : WireFault → Item
+  Floods : (held : ℕ) → Item
   Puts : Put → Item
+  -- memory was wanting, in place of what would have come next; or for the session itself, which then wasn't made
+  Starves : (made : Bool) → Item

@@ -1,22 +1,22 @@
 -- Laws about runs. Each is carried by a public function whose contract is the law.
-use Rattle.std.specs.Prelude.{◌≡◌, ◌⊎◌, ℕ, List, [], Contains}
+use Rattle.std.specs.Prelude.{◌≡◌, ◌⊎◌, ℕ, true, List, [], Contains}
 use Rattle.rws_board.specs.declared.event.Event.{Event}
 use Rattle.rws_config.specs.declared.config.Config.{Config}
 use Rattle.rws_record.specs.Values.{links}
 use Rattle.rws_record.specs.Record.{IsRecord}
-use Rattle.rws_record.specs.Run.{Entry, IsRun, IsRunOver, record_of, done_in}
+use Rattle.rws_record.specs.Run.{Entry, IsRun, IsRunOver, is_ample, record_of, done_in}
 
--- There is one run over a list of events: the definition leaves nothing open.
+-- There is one run over a list of events in which memory is never wanting: the definition leaves nothing else open.
 abbrev pub OneRun : Type 0
 OneRun =
     (config : Config) (events : List Event) (a b : List Entry) → IsRunOver config events a → IsRunOver config events b
-    → a ≡ b
+    → is_ample a ≡ true → is_ample b ≡ true → a ≡ b
 
--- So what is done outside is determined by the events.
+-- So without want of memory what is done outside is determined by the events.
 abbrev pub OneOutcome : Type 0
 OneOutcome =
     (config : Config) (events : List Event) (a b : List Entry) → IsRunOver config events a → IsRunOver config events b
-    → done_in a ≡ done_in b
+    → is_ample a ≡ true → is_ample b ≡ true → done_in a ≡ done_in b
 
 -- In a legal run what happened to one session is a legal record, if the session ever began.
 abbrev pub Records : Type 0

@@ -2,7 +2,8 @@
 -- goes on by `next` until it rests, and then by what comes from outside.
 --
 -- Rules come in two levels: a function of plain values, and one line that fills in the values of a record.
-use Rattle.std.specs.Prelude.{ℕ, Bool, true, false, not, ◌&&◌, ◌==◌, List, [], ◌∷◌, ◌++◌, map, drop, Option, Some, None, if◌then◌else◌}
+use Rattle.std.specs.Prelude.{ℕ, ◌+◌, nat_lt, Bool, true, false, not, ◌&&◌, ◌==◌, List, [], ◌∷◌, ◌++◌, length, map, drop, Option, Some, None, if◌then◌else◌}
+use Rattle.std.specs.Option.{option_map}
 use Rattle.rws_wire.specs.Payloads.{Beginning, first_payload}
 use Rattle.rws_wire.specs.Payloads.Beginning.{Nothing, Whole, Faulty}
 use Rattle.rws_wire.specs.declared.fault.WireFault.{WireFault}
@@ -14,17 +15,17 @@ use Rattle.rws_reply.specs.declared.kind.Progress.{Progress}
 use Rattle.rws_reply.specs.declared.kind.Progress.TheVariants.{More, Whole as Ends}
 use Rattle.rws_reply.specs.Tracking.{progress}
 use Rattle.rws_config.specs.declared.config.Config.{Config}
-use Rattle.rws_config.specs.declared.limits.TheConstants.{SERVER_PAYLOAD}
+use Rattle.rws_config.specs.declared.limits.TheConstants.{FLOOD_ROOM, SERVER_PAYLOAD}
 use Rattle.rws_record.specs.declared.command.Command.{Command}
-use Rattle.rws_record.specs.declared.proxy_error.ProxyError.TheVariants.{PacketsOutOfOrder, CommandTooLarge}
+use Rattle.rws_record.specs.declared.proxy_error.ProxyError.TheVariants.{PacketsOutOfOrder, CommandTooLarge, OutOfMemory}
 use Rattle.rws_record.specs.Item.{Item, Part, Purpose, Judged, Put}
-use Rattle.rws_record.specs.Item.Item.{Began, ClientBytes, LinkBytes, ClientGone, LinkLost, Replies, Garbles, Strays, Takes, TakesFault, Puts}
+use Rattle.rws_record.specs.Item.Item.{Began, ClientBytes, LinkBytes, ClientGone, LinkLost, Replies, Garbles, Strays, Takes, TakesFault, Puts, Starves, Floods}
 use Rattle.rws_record.specs.Item.Judged.{Leaves, Pings, IsRefused, Serves}
 use Rattle.rws_record.specs.Item.Put.{Tells, Sends, Drops, Closes}
 use Rattle.rws_record.specs.Item.Tell.{Passes, Owns, Refuses}
 use Rattle.rws_record.specs.Item.Purpose.{Asks}
 use Rattle.rws_record.specs.Judging.{judged}
-use Rattle.rws_record.specs.Values.{held, links, contains, kept_on, Exchange, exchange, kind_of, link_held, pending, sent_on, told_from, reply_number, is_over}
+use Rattle.rws_record.specs.Values.{held, links, contains, kept_on, Exchange, exchange, kind_of, form_of, link_held, pending, sent_on, told_from, reply_number, is_over}
 
 abbrev pub is_link : ℕ → Option ℕ → Bool
 is_link link (Some other) = other == link
@@ -121,26 +122,37 @@ after_fault (faults.OutOfOrder want got) =
     Tells 1 (Refuses PacketsOutOfOrder) ∷ Closes (reasons.OutOfOrder want got) ∷ []
 after_fault (faults.TooLarge length) = Tells 1 (Refuses CommandTooLarge) ∷ Closes (reasons.TooLarge length) ∷ []
 
+-- The client sent on too far behind a command that isn't answered. It too is told in a packet of number 1.
+abbrev pub after_flood : ℕ → List Put
+after_flood held = Tells 1 (Refuses CommandTooLarge) ∷ Closes (reasons.Flooded held) ∷ []
+
 abbrev pub unasked : ℕ → Bool → List Put
 unasked link true = Drops link Unasked ∷ []
 unasked link false = []
 
--- A payload of the reply to the client's command goes to the client; behind the last one a further byte costs the link.
--- A payload by which the reply is none costs the link too.
-abbrev pub after_answer : ℕ → Command → Part → Option Progress → (number : ℕ) → List Put
-after_answer link command part None number = Drops link BadReply ∷ []
-after_answer link command part (Some More) number = Tells number (Passes link command part.payload None) ∷ []
-after_answer link command part (Some (Ends outcome)) number =
-    Tells number (Passes link command part.payload (Some outcome)) ∷ unasked link part.behind
+-- A payload of the reply to the client's command goes to the client in its form; behind the last one a further byte costs
+-- the link. A payload by which the reply is none costs the link too.
+abbrev pub after_answer : ℕ → Command → (form : List ℕ) → Option Progress → (behind : Bool) → (number : ℕ) → List Put
+after_answer link command form None behind number = Drops link BadReply ∷ []
+after_answer link command form (Some More) behind number = Tells number (Passes link command form None) ∷ []
+after_answer link command form (Some (Ends outcome)) behind number =
+    Tells number (Passes link command form (Some outcome)) ∷ unasked link behind
 
 abbrev pub after_part : ℕ → Part → Option Exchange → (number : ℕ) → List Put
 after_part link part None number = []
-after_part link part (Some e) number = after_purpose link part e.purpose number
+after_part link part (Some e) number = after_purpose (form_of e part.payload) e.purpose
   where
-    after_purpose : ℕ → Part → Purpose → ℕ → List Put
-    after_purpose link part (Asks command) number = after_answer link command part part.progress number
+    after_purpose : List ℕ → Purpose → List Put
+    after_purpose form (Asks command) = after_answer link command form part.progress part.behind number
 
--- the answer to what came or was taken up, from the record before it
+-- Where memory is wanting the session is closed, and its client told before in a packet of number 1, if the session was
+-- made. One that is over gives up the links that it has left.
+abbrev pub after_want : (over made : Bool) → (farewells : List Put) → List Put
+after_want true made farewells = farewells
+after_want false true farewells = Tells 1 (Refuses OutOfMemory) ∷ Closes reasons.Memory ∷ []
+after_want false false farewells = Closes reasons.Memory ∷ []
+
+-- the answer to what came, was taken up or was wanting, from the record before it
 abbrev pub response : Item → List Item → List Put
 response (Began link server) past = []
 response (ClientBytes bytes) past = []
@@ -152,6 +164,8 @@ response (Garbles link fault) past = Drops link BadWire ∷ []
 response (Strays link) past = Drops link Unasked ∷ []
 response (Takes judged number) past = after_command judged number
 response (TakesFault fault) past = after_fault fault
+response (Floods held) past = after_flood held
+response (Starves made) past = after_want (is_over past) made (farewells past)
 response (Puts put) past = []
 
 -- what follows directly on something that was given out
@@ -175,6 +189,19 @@ send_by _ _ _ links = None
 
 abbrev pub due_send : List Item → Option Item
 due_send past = send_by (pending past) (sent_on past) (kept_on past) (links past)
+
+-- how many bytes a client may have sent that aren't taken up, while a command of its is pending
+abbrev pub flood_limit : Config → ℕ
+flood_limit config = config.command_bytes + FLOOD_ROOM
+
+-- The number of bytes that is too many, where so many are held or more. It is the first number above the limit, and not how
+-- many came: so it is the same however they were cut.
+abbrev pub flood_by : Option Command → (limit held : ℕ) → Option ℕ
+flood_by (Some command) limit held = if nat_lt limit held then Some (limit + 1) else None
+flood_by None limit held = None
+
+abbrev pub due_flood : Config → List Item → Option Item
+due_flood config past = option_map (λ bytes. Floods bytes) (flood_by (pending past) (flood_limit config) (length (held config past)))
 
 abbrev pub is_some_byte : List ℕ → Bool
 is_some_byte [] = false
@@ -217,8 +244,10 @@ take_by (Some command) beginning = None
 abbrev pub due_take : Config → List Item → Option Item
 due_take config past = take_by (pending past) (first_payload config.command_bytes 0 (held config past))
 
+-- A command that was just taken up is sent before the bytes behind it are counted, so one piece of bytes and two give the
+-- same.
 abbrev pub due : Config → List Item → Option Item
-due config past = due_send past or (due_arrival (links past) past or due_take config past)
+due config past = due_send past or (due_flood config past or (due_arrival (links past) past or due_take config past))
 
 abbrev pub next_by : List Put → Bool → Option Item → Option Item
 next_by (put ∷ others) over due = Some (Puts put)

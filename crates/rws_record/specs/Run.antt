@@ -7,9 +7,10 @@ use Rattle.rws_board.specs.declared.event.Event.TheVariants as events
 use Rattle.rws_board.specs.declared.action.Action.{Action}
 use Rattle.rws_config.specs.declared.config.Config.{Config}
 use Rattle.rws_record.specs.Item.{Item}
-use Rattle.rws_record.specs.Item.Item.{Began, ClientBytes, LinkBytes, ClientGone, LinkLost}
-use Rattle.rws_record.specs.Values.{opens, links, is_over, contains}
+use Rattle.rws_record.specs.Item.Item.{Began, ClientBytes, LinkBytes, ClientGone, LinkLost, Starves}
+use Rattle.rws_record.specs.Values.{opens, links, is_over, is_starved, contains}
 use Rattle.rws_record.specs.Rules.{next, ◌or◌}
+use Rattle.rws_record.specs.Record.{CanBeMade}
 use Rattle.rws_record.specs.Outputs.{outs_of}
 
 pub data Entry : Type 0 where
@@ -125,13 +126,27 @@ hearing (told ∷ others) = Some (Heard told.0 told.1)
 abbrev pub next_entry : Config → List Entry → Option Entry
 next_entry config run = step_of config (hearer run) run or hearing (untold config run)
 
--- Each event comes when the run rests, and each other entry is the next one.
+-- Each event comes when the run rests, and each other entry is the next one; but to the session that heard of the last
+-- event memory may be wanting, once.
 pub data IsRun (config : Config) : List Entry → Type 0 where
   starts : IsRun config []
   came : {run : List Entry} {event : Event} → IsRun config run → next_entry config run ≡ None
       → IsRun config (Came event ∷ run)
   goes_on : {run : List Entry} {entry : Entry} → IsRun config run → next_entry config run ≡ Some entry
       → IsRun config (entry ∷ run)
+  starves : {run : List Entry} {session : ℕ} {made : Bool} → IsRun config run → hearer run ≡ Some session
+      → is_starved (record_of session run) ≡ false → CanBeMade made (record_of session run)
+      → IsRun config (Did session (Starves made) ∷ run)
+
+abbrev pub is_want : Item → Bool
+is_want (Starves made) = true
+is_want _ = false
+
+-- memory was wanting nowhere in the run
+abbrev pub is_ample : List Entry → Bool
+is_ample [] = true
+is_ample (Did session item ∷ run) = not (is_want item) && is_ample run
+is_ample (_ ∷ run) = is_ample run
 
 -- What is known of a run outside
 

@@ -8,11 +8,13 @@ use Rattle.rws_wire.specs.declared.fault.WireFault.{WireFault}
 use Rattle.rws_reply.specs.declared.kind.Kind.{Kind}
 use Rattle.rws_reply.specs.declared.kind.Progress.{Progress}
 use Rattle.rws_reply.specs.declared.kind.Progress.TheVariants.{More}
+use Rattle.rws_reply.specs.Tracking.{role}
+use Rattle.rws_reply.specs.ClientForm.{in_role}
 use Rattle.rws_config.specs.declared.config.Config.{Config}
 use Rattle.rws_config.specs.declared.limits.TheConstants.{SERVER_PAYLOAD}
 use Rattle.rws_record.specs.declared.command.Command.{Command}
 use Rattle.rws_record.specs.Item.{Item, Part, Purpose}
-use Rattle.rws_record.specs.Item.Item.{Began, ClientBytes, LinkBytes, ClientGone, LinkLost, Replies, Garbles, Takes, TakesFault, Puts}
+use Rattle.rws_record.specs.Item.Item.{Began, ClientBytes, LinkBytes, ClientGone, LinkLost, Replies, Garbles, Takes, TakesFault, Puts, Starves}
 use Rattle.rws_record.specs.Item.Judged.{Serves}
 use Rattle.rws_record.specs.Item.Put.{Tells, Sends, Drops, Closes}
 use Rattle.rws_record.specs.Item.Tell.{Passes}
@@ -82,7 +84,7 @@ kept_on (_ ∷ past) = kept_on past
 
 -- What a link is asked
 
--- the reply that a link owes: why it was asked, the number of the packet that comes next, and the payloads so far
+-- the reply that a link owes: why it was asked, the number of the packet that comes next, and the server's payloads so far
 pub record Exchange : Type 0 where
   pub purpose : Purpose
   pub next : ℕ
@@ -99,6 +101,15 @@ kind_of (Asks command) = command.kind
 -- a reply counts on from the command's last packet
 abbrev pub asked : Purpose → Exchange
 asked purpose = record { purpose = purpose; next = number_behind 0 (sent_for purpose); sofar = [] }
+
+-- The handle that a client knows a prepared statement by. Prepared statements aren't looked at yet: no command is answered
+-- by a number of one, so no payload has this handle in it.
+abbrev pub prepared_handle : ℕ
+prepared_handle = 0
+
+-- the form in which the client gets a payload that comes next of a reply
+abbrev pub form_of : Exchange → List ℕ → List ℕ
+form_of e payload = in_role (role (kind_of e.purpose) e.sofar payload) prepared_handle payload
 
 abbrev pub with_part : Part → Exchange → Exchange
 with_part part e = record e { next = part.next; sofar = e.sofar ++ part.payload ∷ [] }
@@ -161,7 +172,7 @@ reply_number (Takes judged number ∷ past) = number
 reply_number (Puts (Tells number (Passes link command payload outcome)) ∷ past) = number_behind number payload
 reply_number (_ ∷ past) = reply_number past
 
--- the payloads that the client was passed since the last command was taken up
+-- the payloads that the client was passed since the last command was taken up, in its form
 abbrev pub told : List Item → List (List ℕ)
 told [] = []
 told (Takes judged number ∷ past) = []
@@ -182,3 +193,9 @@ is_over [] = false
 is_over (ClientGone ∷ past) = true
 is_over (Puts (Closes reason) ∷ past) = true
 is_over (_ ∷ past) = is_over past
+
+-- memory was wanting to the session
+abbrev pub is_starved : List Item → Bool
+is_starved [] = false
+is_starved (Starves made ∷ past) = true
+is_starved (_ ∷ past) = is_starved past

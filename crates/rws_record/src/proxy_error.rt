@@ -22,6 +22,8 @@ pub enum ProxyError {
     PacketsOutOfOrder,
     /// A command is longer than the limit.
     CommandTooLarge,
+    /// Memory was wanting in the session.
+    OutOfMemory,
 }
 
 impl ProxyError {
@@ -40,6 +42,7 @@ impl ProxyError {
             ProxyError::NotInReadOnly => b"\xff\xd3\x04#42000not in a read-only transaction",
             ProxyError::PacketsOutOfOrder => b"\xff\x84\x04#08S01packets out of order",
             ProxyError::CommandTooLarge => b"\xff\x81\x04#08S01command too large",
+            ProxyError::OutOfMemory => b"\xff\x0d\x04#HY001out of memory",
         }
     }
 }

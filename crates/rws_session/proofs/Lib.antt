@@ -10,3 +10,7 @@ pub mod MirrorLemmas
 pub mod TryLemmas
 -- a whole turn
 pub mod TurnLemmas
+-- and what lasts where memory was wanting
+pub mod BreakLemmas
+-- what it leaves
+pub mod BoundLemmas

@@ -1,20 +1,21 @@
 -- What is true of every legal record: no link stands twice, and what is read has no fault.
-use Rattle.std.proofs.Common.{◌≡◌, ℕ, Bool, true, false, List, [], ◌∷◌, ◌++◌, refl, ap, inl, inr, None, eq-eqb, eqb-true}
+use Rattle.std.proofs.Common.{◌≡◌, ℕ, Bool, true, false, List, [], ◌∷◌, ◌++◌, refl, sym, ap, ◌∙◌, inl, inr, None, eq-eqb, eqb-true}
 use Rattle.std.specs.Prelude.{◌⊎◌, ◌==◌, if◌then◌else◌}
 use Rattle.rws_wire.specs.declared.fault.WireFault.{WireFault}
 use Rattle.rws_wire.specs.declared.fault.WireFault.TheVariants as faults
 use Rattle.rws_wire.specs.declared.drop_cause.DropCause.TheVariants.{BadWire}
 use Rattle.rws_config.specs.declared.config.Config.{Config}
 use Rattle.rws_record.specs.Item.{Item, Put}
-use Rattle.rws_record.specs.Item.Item.{Began, ClientBytes, LinkBytes, ClientGone, LinkLost, Replies, Garbles, Strays, Takes, TakesFault, Puts}
+use Rattle.rws_record.specs.Item.Item.{Began, ClientBytes, LinkBytes, ClientGone, LinkLost, Replies, Garbles, Strays, Takes, TakesFault, Puts, Starves, Floods}
 use Rattle.rws_record.specs.Item.Put.{Tells, Sends, Drops, Closes}
-use Rattle.rws_record.specs.Values.{opens, links, contains, without, client_fault, link_fault, is_over}
+use Rattle.rws_record.specs.Values.{opens, links, contains, without, client_fault, link_fault, is_over, is_starved}
 use Rattle.rws_record.specs.Rules.{next, owed, follow, after_fault}
 use Rattle.rws_record.specs.Record.{IsRecord, IsInput}
-use Rattle.rws_record.specs.Record.IsRecord.{begins, steps, hears}
+use Rattle.rws_record.specs.Record.IsRecord.{begins, steps, hears, starves}
 use Rattle.rws_record.proofs.StepLemmas.{Due, Step, of_next, rests_owing_nothing, step_opens_none, input_opens_none}
+use Rattle.rws_record.proofs.WantLemmas.{closes_soon, closes_behind, input_starved, step_starved, unstarved}
 use Rattle.rws_record.proofs.StepLemmas.Due.{replies, garbles, strays, takes, takes_fault}
-use Rattle.rws_record.proofs.StepLemmas.Step.{pays, sends, reads}
+use Rattle.rws_record.proofs.StepLemmas.Step.{pays, sends, floods, reads}
 use Rattle.rws_session.specs.Table.{AreDistinct, AreSound}
 
 -- A list without one of its links
@@ -74,6 +75,8 @@ leaves past (Garbles link fault) e = all refl
 leaves past (Strays link) e = all refl
 leaves past (Takes judgement number) e = all refl
 leaves past (TakesFault fault) e = all refl
+leaves past (Floods bytes) e = all refl
+leaves past (Starves made) e = all refl
 leaves past (Puts (Tells number tell)) e = all refl
 leaves past (Puts (Sends link purpose)) e = all refl
 leaves past (Puts (Drops link cause)) e = but_one link refl
@@ -95,6 +98,7 @@ links_distinct {config} (steps {past = past} {item = item} legal next) =
     leaves_distinct past item (leaves past item (step_opens_none (of_next config past item next))) (links_distinct legal)
 links_distinct (hears {past = past} {item = item} legal rests goes_on input) =
     leaves_distinct past item (leaves past item (input_opens_none item past input)) (links_distinct legal)
+links_distinct (starves legal once can) = links_distinct legal
 
 -- A link's stream has a fault only where the link is to be given up.
 
@@ -136,6 +140,7 @@ step_sound : {config : Config} {past : List Item} {item : Item} → Step config 
     → contains link (links (item ∷ past)) ≡ true → IsSound past link → IsSound (item ∷ past) link
 step_sound {past = past} (pays {put = put} o) link has sound = pays_sound past put o link has sound
 step_sound {past = past} (sends o n p s k c) link has sound = inl (unowed past link o sound)
+step_sound {past = past} (floods o n p above) link has sound = inl (unowed past link o sound)
 step_sound {past = past} (reads o n due) link has sound = due_sound due link (unowed past link o sound)
 
 input_sound : (past : List Item) (item : Item) → IsInput item past → (link : ℕ) → link_fault link past ≡ None
@@ -146,16 +151,18 @@ input_sound past (LinkBytes other bytes) input link none = inl none
 input_sound past (LinkLost other) input link none = inl none
 input_sound past _ input link none = absurd input
 
-link_sound : {config : Config} {past : List Item} → IsRecord config past → (link : ℕ) → contains link (links past) ≡ true
-    → IsSound past link
-link_sound (begins first server) link has = inl refl
-link_sound {config} (steps {past = past} {item = item} legal next) link has =
+link_sound : {config : Config} {past : List Item} → IsRecord config past → is_starved past ≡ false → (link : ℕ)
+    → contains link (links past) ≡ true → IsSound past link
+link_sound (begins first server) fed link has = inl refl
+link_sound {config} (steps {past = past} {item = item} legal next) fed link has =
     let step = of_next config past item next in
     step_sound step link has
-    (link_sound legal link (leaves_less past item link (leaves past item (step_opens_none step)) has))
-link_sound {config} (hears {past = past} {item = item} legal rests goes_on input) link has =
+    (link_sound legal (sym (step_starved step) ∙ fed) link (leaves_less past item link (leaves past item (step_opens_none step)) has))
+link_sound {config} (hears {past = past} {item = item} legal rests goes_on input) fed link has =
     input_sound past item input link (unowed past link (rests_owing_nothing config past rests)
-    (link_sound legal link (leaves_less past item link (leaves past item (input_opens_none item past input)) has)))
+    (link_sound legal (sym (input_starved past item input) ∙ fed) link
+    (leaves_less past item link (leaves past item (input_opens_none item past input)) has)))
+link_sound (starves legal once can) fed link has = absurd cc
 
 all_sound : (past : List Item) (links : List ℕ) → ((link : ℕ) → contains link links ≡ true → link_fault link past ≡ None)
     → AreSound past links
@@ -167,23 +174,13 @@ all_sound past (link ∷ others) each =
     behind other true has = refl
     behind other false has = has
 
--- where nothing is owed no link's stream has a fault
-pub links_sound : {config : Config} {past : List Item} → IsRecord config past → owed past ≡ [] → AreSound past (links past)
-links_sound {config} {past} legal o = all_sound past (links past) (λ link has. unowed past link o (link_sound legal link has))
+-- where nothing is owed and the session isn't over no link's stream has a fault
+pub links_sound : {config : Config} {past : List Item} → IsRecord config past → owed past ≡ [] → is_over past ≡ false
+    → AreSound past (links past)
+links_sound {config} {past} legal o n =
+    all_sound past (links past) (λ link has. unowed past link o (link_sound legal (unstarved legal o n) link has))
 
 -- The client's stream has a fault only where the session is over, or is about to be.
-
-abbrev closes_soon : List Put → Bool
-closes_soon [] = false
-closes_soon (Closes reason ∷ others) = true
-closes_soon (_ ∷ others) = closes_soon others
-
-closes_behind : (first others : List Put) → closes_soon others ≡ true → closes_soon (first ++ others) ≡ true
-closes_behind [] others soon = soon
-closes_behind (Tells number tell ∷ rest) others soon = closes_behind rest others soon
-closes_behind (Sends link purpose ∷ rest) others soon = closes_behind rest others soon
-closes_behind (Drops link cause ∷ rest) others soon = closes_behind rest others soon
-closes_behind (Closes reason ∷ rest) others soon = refl
 
 data IsReadable (past : List Item) : Type 0 where
   sound : client_fault past ≡ None → IsReadable past
@@ -224,6 +221,7 @@ step_readable : {config : Config} {past : List Item} {item : Item} → Step conf
     → IsReadable (item ∷ past)
 step_readable (pays {put = put} o) readable = pays_readable put o readable
 step_readable (sends o n p s k c) readable = sound (goes_on o n readable)
+step_readable (floods o n p above) readable = ends refl
 step_readable (reads o n due) readable = due_readable due (goes_on o n readable)
 
 input_readable : (past : List Item) (item : Item) → IsInput item past → client_fault past ≡ None → IsReadable (item ∷ past)
@@ -233,11 +231,17 @@ input_readable past (LinkBytes other bytes) input none = sound none
 input_readable past (LinkLost other) input none = sound none
 input_readable past _ input none = absurd input
 
+want_readable : (past : List Item) (made over : Bool) → is_over past ≡ over → IsReadable (Starves made ∷ past)
+want_readable past made true over = ended over
+want_readable past true false over = ends (rw over refl)
+want_readable past false false over = ends (rw over refl)
+
 readable : {config : Config} {past : List Item} → IsRecord config past → IsReadable past
 readable (begins link server) = sound refl
 readable {config} (steps {past = past} {item = item} legal next) = step_readable (of_next config past item next) (readable legal)
 readable {config} (hears {past = past} {item = item} legal rests n input) =
     input_readable past item input (goes_on (rests_owing_nothing config past rests) n (readable legal))
+readable (starves {past = past} {made = made} legal once can) = want_readable past made (is_over past) refl
 
 -- where nothing is owed and the session isn't over the client's stream has no fault
 pub client_sound : {config : Config} {past : List Item} → IsRecord config past → owed past ≡ [] → is_over past ≡ false

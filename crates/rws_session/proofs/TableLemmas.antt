@@ -2,14 +2,15 @@
 use Rattle.std.proofs.Common.{◌≡◌, ℕ, Bool, true, false, List, [], ◌∷◌, map, refl, sym, ap, subst, ◌∙◌, Option, Some, None, Result, IfOk, eq-eqb, ne_eqb, eqb-true}
 use Rattle.std.proofs.lemmas.Bool.{eqb-false}
 use Rattle.std.proofs.lemmas.Result.{IfOk-weaker}
-use Rattle.std.specs.Prelude.{◌==◌, ◌||◌, if◌then◌else◌}
+use Rattle.std.specs.Prelude.{◌==◌, ◌||◌, ◌&&◌, is_some, if◌then◌else◌}
 use Rattle.std.specs.List.{list_any}
+use Rattle.std.specs.Option.{option_map}
 use Rattle.rws_record.specs.Item.{Item}
-use Rattle.rws_record.specs.Values.{contains, link_fault}
+use Rattle.rws_record.specs.Values.{Exchange, contains, exchange, link_fault}
 use Rattle.rws_session.specs.declared.link.Arrival.{Arrival}
 use Rattle.rws_session.specs.declared.link.Arrival.TheVariants as arrivals
 use Rattle.rws_session.specs.declared.link.Link.{Link}
-use Rattle.rws_session.specs.State.{link_of}
+use Rattle.rws_session.specs.State.{awaited_of, link_of}
 use Rattle.rws_session.specs.Table.{at, item_of, Reads, ReadsFirst, AreDistinct, AreSound}
 
 -- two numbers that differ, read from the other side
@@ -55,7 +56,7 @@ changed_at past number change after (link ∷ others) distinct same here =
 -- an item about one link leaves the others as they were
 other_link : (past : List Item) (number : ℕ) (found : Arrival) (link : ℕ) → (link == number) ≡ false
     → link_of (item_of number found ∷ past) link ≡ link_of past link
-other_link past number (arrivals.Reply payload next progress behind) link differ = rw (apart link number differ) refl
+other_link past number (arrivals.Reply payload form next progress behind) link differ = rw (apart link number differ) refl
 other_link past number (arrivals.Garbled fault) link differ = rw (apart link number differ) refl
 other_link past number arrivals.Stray link differ = refl
 
@@ -72,7 +73,7 @@ read_here past (number ∷ rest) link new others found are distinct sound reads 
     let behind : others ≡ map (link_of past) rest = cc in
     let there = others_same number (link_of past) (link_of (item_of number found ∷ past)) rest distinct.0 (other_link past number found) in
     subst (λ (n : ℕ). ReadsFirst past (number ∷ rest) (Some (n, found)) (new ∷ others)) (sym same)
-    (rw r.0 refl, rw (itself number) refl, both r.1 (behind ∙ there))
+    (rw r.0 refl, rw (itself number) refl, both r.1 (behind ∙ there), r.2)
 
 -- they complete nothing, and the links behind it are read
 pub read_behind : (past : List Item) (numbers : List ℕ) (link new : Link) (others behind : List Link)
@@ -94,7 +95,7 @@ read_behind past (number ∷ rest) link new others behind are distinct sound rea
     one r (Some found) there =
         let differ : (number == found.0) ≡ false = ne_eqb number found.0 (λ same.
         let has : contains number rest ≡ true = rw (← same) at there.1 in let not_there = distinct.0 in absurd cc) in
-        (rw r.0 there.0, rw differ there.1, both (r.1 ∙ sym (other_link past found.0 found.1 number differ)) there.2)
+        (rw r.0 there.0, rw differ there.1, both (r.1 ∙ sym (other_link past found.0 found.1 number differ)) there.2, there.3)
 
 -- a link of this number is there
 pub has_is : (past : List Item) (number : ℕ) (links : List ℕ)
@@ -105,3 +106,30 @@ has_is past number (link ∷ others) = rw (has_is past number others) (by_test (
     by_test : (test : Bool) → (test || contains number others) ≡ (if test then true else contains number others)
     by_test true = refl
     by_test false = refl
+
+-- a link of this number is there, and a reply is awaited on it
+pub awaits_is : (past : List Item) (number : ℕ) (links : List ℕ)
+    → list_any (λ (link : Link). link.number == number && is_some link.awaited) (map (link_of past) links)
+    ≡ (contains number links && is_some (exchange number past))
+awaits_is past number [] = refl
+awaits_is past number (link ∷ others) = rw (awaits_is past number others) (by_test (link == number) refl)
+  where
+    owes : ℕ → Bool
+    owes link = is_some (option_map awaited_of (exchange link past))
+
+    same_owed : (e : Option Exchange) → is_some (option_map awaited_of e) ≡ is_some e
+    same_owed (Some e) = refl
+    same_owed None = refl
+
+    here : (is behind : Bool) → (is || (behind && is)) ≡ is
+    here true behind = refl
+    here false true = refl
+    here false false = refl
+
+    by_test : (test : Bool) → (link == number) ≡ test
+        → ((test && owes link) || (contains number others && is_some (exchange number past)))
+        ≡ ((if test then true else contains number others) && is_some (exchange number past))
+    by_test true t =
+        let e : link ≡ number = eqb-true link number t in
+        rw (e, same_owed (exchange number past)) (here (is_some (exchange number past)) (contains number others))
+    by_test false t = refl

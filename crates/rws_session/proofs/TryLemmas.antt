@@ -1,6 +1,6 @@
 -- Each kind of step, where it was tried on a session that keeps what it is to keep: it makes the item that is due.
-use Rattle.std.proofs.Common.{◌≡◌, ℕ, Bool, true, false, List, [], ◌∷◌, ◌++◌, map, refl, sym, ap, subst, ◌∙◌, inl, inr, Option, Some, None, Ok, Err}
-use Rattle.std.specs.Prelude.{◌==◌, if◌then◌else◌, is_some}
+use Rattle.std.proofs.Common.{◌≡◌, ℕ, ◌+◌, length, Bool, true, false, List, [], ◌∷◌, ◌++◌, map, refl, sym, ap, subst, ◌∙◌, inl, inr, Option, Some, None, Ok, Err}
+use Rattle.std.specs.Prelude.{◌==◌, if◌then◌else◌, is_some, unwrap_or}
 use Rattle.std.specs.List.{list_any}
 use Rattle.std.proofs.lemmas.List.{append-nil}
 use Rattle.rws_wire.specs.Deframing.{Deframing, HandsOut, next_of, unless_stopped}
@@ -13,17 +13,17 @@ use Rattle.rws_reply.specs.declared.kind.Progress.{Progress}
 use Rattle.rws_reply.specs.declared.kind.Progress.TheVariants.{More, Whole as Ends}
 use Rattle.rws_board.specs.declared.action.Action.{Action}
 use Rattle.rws_config.specs.declared.config.Config.{Config}
-use Rattle.rws_config.specs.declared.limits.TheConstants.{SERVER_PAYLOAD}
+use Rattle.rws_config.specs.declared.limits.TheConstants.{FLOOD_ROOM, SERVER_PAYLOAD}
 use Rattle.rws_record.specs.declared.command.Command.{Command}
 use Rattle.rws_record.specs.Item.{Item, Judged, Part, Purpose, Put}
-use Rattle.rws_record.specs.Item.Item.{Puts, Replies, Takes, TakesFault}
+use Rattle.rws_record.specs.Item.Item.{Floods, Puts, Replies, Takes, TakesFault}
 use Rattle.rws_record.specs.Item.Judged.{Leaves, Pings, IsRefused, Serves}
 use Rattle.rws_record.specs.Item.Put.{Tells, Sends, Drops, Closes}
 use Rattle.rws_record.specs.Item.Tell.{Passes, Owns, Refuses}
 use Rattle.rws_record.specs.Item.Purpose.{Asks}
 use Rattle.rws_record.specs.Judging.{judged}
-use Rattle.rws_record.specs.Values.{Exchange, asked, client_fault, contains, exchange, held, is_over, kept_on, link_held, links, pending, reply_number, sent_on}
-use Rattle.rws_record.specs.Rules.{after_command, after_fault, after_part, arrival, due_arrival, due_send, due_take, owed, reply_by, send_by, take_by}
+use Rattle.rws_record.specs.Values.{Exchange, asked, client_fault, contains, exchange, form_of, held, is_over, kept_on, link_held, links, pending, reply_number, sent_on}
+use Rattle.rws_record.specs.Rules.{after_command, after_fault, after_flood, after_part, arrival, due_arrival, due_flood, flood_by, flood_limit, due_send, due_take, owed, reply_by, send_by, take_by}
 use Rattle.rws_record.specs.Outputs.{outs_for, outs_of}
 use Rattle.rws_record.proofs.StepLemmas.{either}
 use Rattle.rws_session.specs.declared.link.Arrival.{Arrival}
@@ -31,7 +31,7 @@ use Rattle.rws_session.specs.declared.link.Arrival.TheVariants as arrivals
 use Rattle.rws_session.specs.declared.link.Link.{Link}
 use Rattle.rws_session.specs.declared.owing.Out.{Out}
 use Rattle.rws_session.specs.State.{State, awaited_of, erased, link_of, state_of}
-use Rattle.rws_session.specs.Table.{ReadsFirst, at, item_of, owing}
+use Rattle.rws_session.specs.Table.{IsInForm, ReadsFirst, at, item_of, owing}
 use Rattle.rws_session.specs.Kept.{Kept, Is}
 use Rattle.rws_session.specs.Steps.{SendsPending, Went, action_of, after_out, due_put, gives, owes, owes_for, owes_reply, pending_by, sendable_by, sends, takes}
 use Rattle.rws_session.proofs.RecordLemmas.{client_sound, links_distinct}
@@ -171,16 +171,39 @@ sent config past link old new is o some went =
       };
     }
 
+-- A flood behind it
+
+pub flooded_nothing : (config : Config) (past : List Item) (k : Kept) → Is config k past
+    → flood_by k.state.pending (k.state.client.limit + FLOOD_ROOM) (length k.state.client.held) ≡ None → due_flood config past ≡ None
+flooded_nothing config past k is none =
+    let none : flood_by (pending past) (flood_limit config) (length (held config past)) ≡ None = rw is.mirrors at none in
+    rw none refl
+
+pub flooded : (config : Config) (past : List Item) (old new : Kept) (bytes : ℕ) → Is config old past → owed past ≡ []
+    → flood_by old.state.pending (old.state.client.limit + FLOOD_ROOM) (length old.state.client.held) ≡ Some bytes
+    → new ≡ record old { state = owes (after_flood bytes) old.state } → Went config (due_flood config past) past old new
+flooded config past old new bytes is o some now =
+    let some : flood_by (pending past) (flood_limit config) (length (held config past)) ≡ Some bytes = rw is.mirrors at some in
+    record {
+      item = Floods bytes;
+      is_due = rw some refl;
+      made = record {
+        number = ap (λ (k : Kept). k.number) now;
+        outs = ap (λ (k : Kept). k.outs) now ∙ sym (append-nil old.outs);
+        state = ap (λ (k : Kept). k.state) now ∙ ap (owes (after_flood bytes)) is.mirrors ∙ rw o refl;
+      };
+    }
+
 -- What came on the links
 
 -- what follows on an arrival, as code and as the definition have it
 follows_reply : (past : List Item) (link : ℕ) (part : Part) (e : Exchange) (number : ℕ) (progress : Option Progress)
     → part.progress ≡ progress
-    → owes_reply link part.payload part.progress part.behind number ≡ map erased (after_part link part (Some e) number)
+    → owes_reply link (form_of e part.payload) part.progress part.behind number ≡ map erased (after_part link part (Some e) number)
 follows_reply past link part e number progress is = by_purpose e.purpose progress is
   where
     by_purpose : (purpose : Purpose) (progress : Option Progress) → part.progress ≡ progress
-        → owes_reply link part.payload part.progress part.behind number
+        → owes_reply link (form_of (record e { purpose = purpose }) part.payload) part.progress part.behind number
         ≡ map erased (after_part link part (Some (record e { purpose = purpose })) number)
     by_purpose (Asks command) None is = rw is refl
     by_purpose (Asks command) (Some More) is = rw is refl
@@ -226,15 +249,16 @@ due_on_one past link part (first ∷ others) due =
 -- what is owed where an item of a link was made
 arrival_is : (config : Config) (past : List Item) (link : ℕ) (found : Arrival) (links_now : List Link) → owed past ≡ []
     → due_arrival (links past) past ≡ Some (item_of link found) → links_now ≡ map (link_of (item_of link found ∷ past)) (links past)
-    → record (state_of config past) { links = links_now; owed = owes_for link found (reply_number past) ++ map erased (owed past) }
+    → IsInForm past link found → record (state_of config past) { links = links_now; owed = owes_for link found (reply_number past) ++ map erased (owed past) }
     ≡ state_of config (item_of link found ∷ past)
-arrival_is config past link arrivals.Stray links_now o due are = rw (o, are) refl
-arrival_is config past link (arrivals.Garbled fault) links_now o due are = rw (o, are) refl
-arrival_is config past link (arrivals.Reply payload next progress behind) links_now o due are =
+arrival_is config past link arrivals.Stray links_now o due are form = rw (o, are) refl
+arrival_is config past link (arrivals.Garbled fault) links_now o due are form = rw (o, are) refl
+arrival_is config past link (arrivals.Reply payload form next progress behind) links_now o due are is_form =
     let part : Part = record { payload = payload; next = next; progress = progress; behind = behind } in
     let owes = owes_one past link part (due_on_one past link part (links past) due) in
     let follows = follows_reply past link part owes.0 (reply_number past) progress refl in
-    rw (o, are, owes.1, append-nil (owes_reply link payload progress behind (reply_number past)), follows) refl
+    let is : unwrap_or form payload ≡ form_of owes.0 payload = is_form owes.0 owes.1 in
+    rw (o, are, owes.1, is, append-nil (owes_reply link (form_of owes.0 payload) progress behind (reply_number past)), follows) refl
 
 pub read_nothing : (config : Config) (past : List Item) (old new : Kept) → Is config old past
     → new ≡ record old { state = record old.state { links = new.state.links } }
@@ -259,12 +283,12 @@ read_one config past old mid new link found is o rest first now = record {
     state = ap (λ (k : Kept). k.state) now
         ∙ ap (λ (k : Kept). record k.state { owed = owes_for link found k.state.reply_number ++ k.state.owed }) rest
         ∙ ap (λ (s : State). record s { links = mid.state.links; owed = owes_for link found s.reply_number ++ s.owed }) is.mirrors
-        ∙ arrival_is config past link found mid.state.links o first.0 first.2;
+        ∙ arrival_is config past link found mid.state.links o first.0 first.2 first.3;
   };
 }
   where
     gives_none : (found : Arrival) → old.outs ++ outs_of old.number (item_of link found) past ≡ old.outs
-    gives_none (arrivals.Reply payload next progress behind) = append-nil old.outs
+    gives_none (arrivals.Reply payload form next progress behind) = append-nil old.outs
     gives_none (arrivals.Garbled fault) = append-nil old.outs
     gives_none arrivals.Stray = append-nil old.outs
 

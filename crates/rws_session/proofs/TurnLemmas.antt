@@ -66,12 +66,12 @@ comes_to_rest config past old mid new g none =
 
 -- What is heard
 
-record Hearing (config : Config) (past : List Item) (k : Kept) : Type 0 where
-  is : Is config k past
-  rests : next config past ≡ None
-  goes_on : is_over past ≡ false
+pub record Hearing (config : Config) (past : List Item) (k : Kept) : Type 0 where
+  pub is : Is config k past
+  pub rests : next config past ≡ None
+  pub goes_on : is_over past ≡ false
 
-hearing : (config : Config) (past : List Item) (k : Kept) → Stands config k past → k.state.over ≡ false → Hearing config past k
+pub hearing : (config : Config) (past : List Item) (k : Kept) → Stands config k past → k.state.over ≡ false → Hearing config past k
 hearing config past k stands n =
     record { is = stands.is; rests = stands.rests; goes_on = sym (ap (λ (s : State). s.over) stands.is.mirrors) ∙ n }
 
@@ -117,7 +117,7 @@ hears_gone config past old new stands n now =
 
 -- a link that the session has
 
-has : (config : Config) (past : List Item) (link : ℕ) (k : Kept) (test : Bool) → Is config k past
+pub has : (config : Config) (past : List Item) (link : ℕ) (k : Kept) (test : Bool) → Is config k past
     → test ≡ list_any (λ (other : Link). other.number == link) k.state.links → contains link (links past) ≡ test
 has config past link k test is e =
     sym (e ∙ ap (λ (s : State). list_any (λ (other : Link). other.number == link) s.links) is.mirrors ∙ has_is past link (links past))

@@ -1,11 +1,12 @@
 -- For which records a session stands.
-use Rattle.std.specs.Prelude.{◌≡◌, ℕ, List, None}
+use Rattle.std.specs.Prelude.{◌≡◌, ℕ, Bool, List, None, map}
 use Rattle.rws_board.specs.declared.action.Action.{Action}
 use Rattle.rws_config.specs.declared.config.Config.{Config}
 use Rattle.rws_record.specs.Item.{Item}
 use Rattle.rws_record.specs.Rules.{next}
+use Rattle.rws_record.specs.Values.{is_over, links as links_of}
 use Rattle.rws_record.specs.Record.{IsRecord}
-use Rattle.rws_session.specs.State.{State, state_of}
+use Rattle.rws_session.specs.State.{State, farewell_packet, number_of, state_of}
 
 pub record Kept : Type 0 where
   -- the session's number
@@ -23,3 +24,29 @@ pub record Is (config : Config) (k : Kept) (past : List Item) : Type 0 where
 pub record Stands (config : Config) (k : Kept) (past : List Item) : Type 0 where
   pub is : Is config k past
   pub rests : next config past ≡ None
+
+-- Where memory was wanting
+
+-- the numbers of its links
+abbrev pub numbers : Kept → List ℕ
+numbers k = map number_of k.state.links
+
+-- what lasts of a session where a call fails for want of memory: enough to close it
+pub record Lasting : Type 0 where
+  pub number : ℕ
+  pub outs : List Action
+  pub links : List ℕ
+  pub over : Bool
+  pub farewell : List ℕ
+
+abbrev pub lasting : Kept → Lasting
+lasting k = record { number = k.number; outs = k.outs; links = numbers k; over = k.state.over; farewell = k.state.farewell }
+
+-- it is as it was, and all else may be spoilt
+abbrev pub Holds : Kept → Kept → Type 0
+Holds old new = lasting new ≡ lasting old
+
+-- what lasts of a session that stands for a record
+abbrev pub lasting_of : ℕ → List Action → List Item → Lasting
+lasting_of number outs past =
+    record { number = number; outs = outs; links = links_of past; over = is_over past; farewell = farewell_packet }

@@ -2,15 +2,19 @@
 use Rattle.std.specs.Prelude.{ℕ, Bool, List, map, Option, Some, None}
 use Rattle.std.specs.Option.{option_map}
 use Rattle.rws_wire.specs.Deframing.{Deframing}
+use Rattle.rws_wire.specs.Packets.{spelling}
+use Rattle.rws_msgs.specs.ErrLayout.{err_bytes}
 use Rattle.rws_reply.specs.Tracking.{tracked}
 use Rattle.rws_config.specs.declared.config.Config.{Config}
 use Rattle.rws_config.specs.declared.limits.TheConstants.{SERVER_PAYLOAD}
 use Rattle.rws_record.specs.declared.command.Command.{Command}
+use Rattle.rws_record.specs.declared.proxy_error.ProxyError.TheVariants.{OutOfMemory}
 use Rattle.rws_record.specs.Item.{Item, Put}
 use Rattle.rws_record.specs.Item.Put.{Tells, Sends, Drops, Closes}
 use Rattle.rws_record.specs.Item.Tell.{Passes, Owns, Refuses}
 use Rattle.rws_record.specs.Values.{held, client_fault, links, server_of, kept_on, Exchange, exchange, kind_of, link_held, link_fault, pending, sent_on, reply_number, told_from, is_over}
 use Rattle.rws_record.specs.Rules.{owed}
+use Rattle.rws_record.specs.Errors.{error_of}
 use Rattle.rws_session.specs.declared.link.Awaited.{Awaited}
 use Rattle.rws_session.specs.declared.link.Link.{Link}
 use Rattle.rws_session.specs.declared.owing.Out.{Out}
@@ -33,6 +37,8 @@ pub record State : Type 0 where
   pub over : Bool
   -- what is to be given out before anything else; None would be something that never waits
   pub owed : List (Option Out)
+  -- the packet that tells the client that memory was wanting
+  pub farewell : List ℕ
 
 -- what code needs to know of something that is owed: a command is sent as soon as that is due, and never owed
 abbrev pub erased : Put → Option Out
@@ -56,6 +62,13 @@ link_of past link = record {
   awaited = option_map awaited_of (exchange link past);
 }
 
+abbrev pub number_of : Link → ℕ
+number_of link = link.number
+
+-- it is made with the session, and waits for want of memory
+abbrev pub farewell_packet : List ℕ
+farewell_packet = spelling 1 (err_bytes (error_of OutOfMemory))
+
 -- what a session keeps of a record: each value under its name
 abbrev pub state_of : Config → List Item → State
 state_of config past = record {
@@ -68,4 +81,5 @@ state_of config past = record {
   reply_number = reply_number past;
   over = is_over past;
   owed = map erased (owed past);
+  farewell = farewell_packet;
 }

@@ -1,6 +1,6 @@
 -- How the steps of a session change what it keeps.
 use Rattle.std.specs.List.{list_any}
-use Rattle.std.specs.Prelude.{◌≡◌, ◌==◌, ◌&&◌, ℕ, Bool, true, false, List, [], ◌∷◌, ◌++◌, map, Option, Some, None, is_some, is_none, if◌then◌else◌}
+use Rattle.std.specs.Prelude.{◌≡◌, ◌==◌, ◌&&◌, ℕ, Bool, true, false, List, [], ◌∷◌, ◌++◌, map, Option, Some, None, is_some, is_none, unwrap_or, if◌then◌else◌}
 use Rattle.rws_wire.specs.Packets.{spelling, number_behind}
 use Rattle.rws_wire.specs.declared.close_reason.CloseReason.{CloseReason}
 use Rattle.rws_wire.specs.declared.drop_cause.DropCause.{DropCause}
@@ -29,7 +29,7 @@ use Rattle.rws_session.specs.declared.owing.Out.{Out}
 use Rattle.rws_session.specs.declared.owing.Out.TheVariants as outs
 use Rattle.rws_session.specs.State.{State, erased, awaited_of, state_of}
 use Rattle.rws_session.specs.Table.{at, owing, without_number}
-use Rattle.rws_session.specs.Kept.{Is, Kept}
+use Rattle.rws_session.specs.Kept.{Is, Kept, lasting, lasting_of}
 
 -- What is given out
 
@@ -119,16 +119,17 @@ takes judgement number s = record s {
   owed = map erased (after_command judgement number) ++ s.owed;
 }
 
--- what follows on a payload of the pending command's reply
-abbrev pub owes_reply : ℕ → List ℕ → Option Progress → (behind : Bool) → (number : ℕ) → List (Option Out)
-owes_reply link payload None behind number = Some (outs.Drop link BadReply) ∷ []
-owes_reply link payload (Some More) behind number = Some (outs.Pass number link payload None) ∷ []
-owes_reply link payload (Some (Whole outcome)) behind number =
-    Some (outs.Pass number link payload (Some outcome)) ∷ map erased (unasked link behind)
+-- what follows on a payload of the pending command's reply, which is this in the client's form
+abbrev pub owes_reply : ℕ → (form : List ℕ) → Option Progress → (behind : Bool) → (number : ℕ) → List (Option Out)
+owes_reply link form None behind number = Some (outs.Drop link BadReply) ∷ []
+owes_reply link form (Some More) behind number = Some (outs.Pass number link form None) ∷ []
+owes_reply link form (Some (Whole outcome)) behind number =
+    Some (outs.Pass number link form (Some outcome)) ∷ map erased (unasked link behind)
 
 -- what follows on what a link's bytes complete
 abbrev pub owes_for : ℕ → Arrival → (number : ℕ) → List (Option Out)
-owes_for link (arrivals.Reply payload next progress behind) number = owes_reply link payload progress behind number
+owes_for link (arrivals.Reply payload form next progress behind) number =
+    owes_reply link (unwrap_or form payload) progress behind number
 owes_for link (arrivals.Garbled fault) number = Some (outs.Drop link BadWire) ∷ []
 owes_for link arrivals.Stray number = Some (outs.Drop link Unasked) ∷ []
 
@@ -170,6 +171,11 @@ Hears config (Some item) past true old new = (new.number ≡ old.number) × (new
 Hears config None past false old new = new ≡ old
 Hears config item past went old new = ⊥
 
+-- memory was wanting for an input: what lasts is that of the record in which it was heard
+abbrev pub HearsInPart : Option Item → List Item → Kept → Kept → Type 0
+HearsInPart (Some item) past old new = lasting new ≡ lasting_of old.number old.outs (item ∷ past)
+HearsInPart None past old new = ⊥
+
 -- the session went on from a record by steps of its own, and what they gave out is there
 pub record Goes (config : Config) (past : List Item) (old new : Kept) : Type 0 where
   pub reached : List Item
@@ -184,3 +190,11 @@ pub record Goes (config : Config) (past : List Item) (old new : Kept) : Type 0 w
 pub record Rests (config : Config) (past : List Item) (old new : Kept) : Type 0 where
   pub goes : Goes config past old new
   pub rests : next config goes.reached ≡ None
+
+-- or memory was wanting for a further step, and what lasts is there
+pub record Stops (config : Config) (past : List Item) (old new : Kept) : Type 0 where
+  pub reached : List Item
+  pub went_on : GoesOn config past reached
+  pub more : List Action
+  pub given : actions_of old.number reached ≡ actions_of old.number past ++ more
+  pub lasts : lasting new ≡ lasting_of old.number (old.outs ++ more) reached

@@ -1,5 +1,5 @@
 //! A link of a session, and the reply that it owes.
-ghost use Rattle.std.specs.Prelude.{◌≡◌, ◌∷◌, ◌++◌, [], List, ℕ, Some, None, if◌then◌else◌, IfOk};
+ghost use Rattle.std.specs.Prelude.{◌≡◌, ◌∷◌, ◌++◌, [], List, ℕ, Option, Some, None, if◌then◌else◌, IfOk, OnOk};
 ghost use Rattle.std.specs.Option.{option_map};
 ghost use Rattle.rws_reply.specs.Tracking.{progress};
 ghost use Rattle.rws_record.specs.Item.{Item};
@@ -7,11 +7,14 @@ ghost use Rattle.rws_record.specs.Values.{Exchange, exchange, goes_on, kind_of, 
 ghost use Rattle.rws_record.specs.Rules.{is_some_byte, part_of};
 ghost use Rattle.rws_session.specs.declared.link.Arrival.TheVariants as arrivals;
 ghost use Rattle.rws_session.specs.State.{awaited_of, link_of};
-ghost use Rattle.rws_session.specs.Table.{Reads, arrival_of};
+ghost use Rattle.rws_session.specs.Table.{Reads, TakesPart, IsFormOf};
 
-use rws_reply::{Progress, ReplyTracker};
+use rws_reply::{Progress, ReplyTracker, client_payload};
 use rws_wire::{Deframer, NextError, Payload, Text, WireFault};
-use std::alloc::AllocError;
+use std::alloc::{AllocError, Global};
+
+/// The handle that a prepared statement has for its client. None is prepared yet, so no payload of a reply names one.
+const PREPARED_HANDLE: u32 = 0;
 
 /// A reply that a link owes.
 #[derive(Drop)]
@@ -35,10 +38,11 @@ pub(crate) struct Link {
 /// What a link's bytes complete.
 #[derive(Drop)]
 pub(crate) enum Arrival {
-    /// A payload of the awaited reply, the number of the packet behind it, how far it brings the reply, and whether a byte
-    /// stands behind it. Without progress it makes the reply none.
+    /// A payload of the awaited reply, the form in which the client gets it where that is another, the number of the packet
+    /// behind it, how far it brings the reply, and whether a byte stands behind it. Without progress it makes the reply none.
     Reply {
         payload: Text,
+        form: Option<Text>,
         next: u8,
         progress: Option<Progress>,
         behind: bool,
@@ -50,6 +54,16 @@ pub(crate) enum Arrival {
 }
 
 impl Awaited {
+    /// The form in which the client gets the next payload of the reply, where that is another.
+    fn form(&self, alloc: Global, payload: &[u8]) -> Result<Option<Text>, AllocError>
+        ensures { (e : Exchange) → self.now ≡ awaited_of e → IfOk result (IsFormOf e payload.now) }
+    {
+        match self.tracker.role(payload) {
+            Some(role) => client_payload(alloc, role, payload, PREPARED_HANDLE),
+            None => Ok(None),
+        }
+    }
+
     /// Takes the next payload of the reply, and the number of the packet behind it.
     fn take(&mut self, payload: &[u8], next: u8) -> Option<Progress>
         ensures goes_on { (e : Exchange) → self.old ≡ awaited_of e
@@ -63,13 +77,14 @@ impl Awaited {
 
 impl Link {
     /// Reads what comes next on the link. None where its bytes complete nothing: it is as it was.
-    pub(crate) fn read(&mut self) -> Result<Option<Arrival>, AllocError>
-        ensures { (past : List Item) (number : ℕ) → self.old ≡ link_of past number → link_fault number past ≡ None
+    pub(crate) fn read(&mut self, alloc: Global) -> Result<Option<Arrival>, AllocError>
+        ensures ok { (past : List Item) (number : ℕ) → self.old ≡ link_of past number → link_fault number past ≡ None
             → IfOk result (λ found. Reads past number found self.new) }
+        ensures number { self.new.number ≡ self.old.number }
     {
         match self.awaited.take() {
             None => Ok(self.stray()),
-            Some(awaited) => self.read_reply(awaited),
+            Some(awaited) => self.read_reply(alloc, awaited),
         }
     }
 
@@ -84,17 +99,20 @@ impl Link {
     }
 
     /// Reads what comes next of the reply that is awaited.
-    fn read_reply(&mut self, awaited: Awaited) -> Result<Option<Arrival>, AllocError>
-        ensures { (past : List Item) (number : ℕ) (e : Exchange) → self.old ≡ record (link_of past number) { awaited = None }
+    fn read_reply(&mut self, alloc: Global, awaited: Awaited) -> Result<Option<Arrival>, AllocError>
+        ensures ok { (past : List Item) (number : ℕ) (e : Exchange) → self.old ≡ record (link_of past number) { awaited = None }
             → exchange number past ≡ Some e → awaited ≡ awaited_of e → link_fault number past ≡ None
             → IfOk result (λ found. Reads past number found self.new) }
+        ensures number { self.new.number ≡ self.old.number }
     {
         match self.stream.next_payload(awaited.next) {
             Ok(None) => {
                 self.awaited = Some(awaited);
                 Ok(None)
             }
-            Ok(Some(Payload { bytes, next })) => Ok(Some(self.take_part(awaited, bytes, next))),
+            Ok(Some(Payload { bytes, next })) => Ok(Some(self.take_part(
+                alloc, awaited, bytes, next,
+            )?)),
             Err(NextError::Fault(fault)) => {
                 self.awaited = Some(awaited);
                 Ok(Some(Arrival::Garbled(fault)))
@@ -104,22 +122,34 @@ impl Link {
     }
 
     /// A payload of the reply came. What it leaves of the reply is awaited on.
-    fn take_part(&mut self, mut awaited: Awaited, payload: Text, next: u8) -> Arrival
-        ensures part { (e : Exchange) → awaited ≡ awaited_of e → result ≡ arrival_of (part_of e payload next self.old.stream.held) }
+    fn take_part(
+        &mut self,
+        alloc: Global,
+        mut awaited: Awaited,
+        payload: Text,
+        next: u8,
+    ) -> Result<Arrival, AllocError>
+        ensures part { (e : Exchange) → awaited ≡ awaited_of e
+            → IfOk result (TakesPart e (part_of e payload next self.old.stream.held)) }
         ensures rest { (e : Exchange) → awaited ≡ awaited_of e
-            → self.new ≡ record self.old { awaited = option_map awaited_of (goes_on (part_of e payload next self.old.stream.held) (Some e)) } }
+            → OnOk result (self.new ≡ record self.old {
+              awaited = option_map awaited_of (goes_on (part_of e payload next self.old.stream.held) (Some e));
+            }) }
+        ensures number { self.new.number ≡ self.old.number }
     {
+        let form = awaited.form(alloc, payload.as_slice())?;
         let progress = awaited.take(payload.as_slice(), next);
         self.awaited = match progress {
             Some(Progress::More) => Some(awaited),
             _ => None,
         };
-        Arrival::Reply {
+        Ok(Arrival::Reply {
             payload,
+            form,
             next,
             progress,
             behind: self.holds_bytes(),
-        }
+        })
     }
 
     /// Some byte of the link isn't read.

@@ -1,5 +1,5 @@
 //! What a session gives out: all of it goes through here, and only here does giving it out change what is kept.
-ghost use Rattle.std.specs.Prelude.{◌≡◌, ◌∷◌, ◌++◌, ℕ, List, [], true, map, Some, IfOk, OnOk};
+ghost use Rattle.std.specs.Prelude.{◌≡◌, ◌∷◌, ◌++◌, ℕ, List, [], true, map, Some, IfOk, OnErr, OnOk};
 ghost use Rattle.rws_wire.specs.Packets.{spelling, number_behind};
 ghost use Rattle.rws_wire.specs.declared.drop_cause.DropCause.TheVariants as causes;
 ghost use Rattle.rws_board.specs.declared.action.Action.TheVariants as actions;
@@ -8,6 +8,7 @@ ghost use Rattle.rws_record.specs.Outputs.{own_ok};
 ghost use Rattle.rws_session.specs.declared.owing.Out.TheVariants as outs;
 ghost use Rattle.rws_session.specs.State.{erased};
 ghost use Rattle.rws_session.specs.Table.{without_number};
+ghost use Rattle.rws_session.specs.Kept.{Holds};
 ghost use Rattle.rws_session.specs.Steps.{after_out, closes, ends, gives, gives_up, loses, loss_in, passed};
 
 use crate::link::Link;
@@ -22,7 +23,8 @@ use std::collections::VecDeque;
 impl Session {
     /// Gives out what was owed.
     pub(super) fn give(&mut self, out: Out) -> Result<(), AllocError>
-        ensures { OnOk result (self.new ≡ gives out self.old) }
+        ensures ok { OnOk result (self.new ≡ gives out self.old) }
+        ensures err { OnErr result (Holds self.old self.new) }
     {
         match out {
             Out::Pass {
@@ -42,6 +44,7 @@ impl Session {
     fn tell(&mut self, number: u8, payload: &[u8]) -> Result<u8, AllocError>
         ensures told { OnOk result (self.new ≡ record self.old { outs = self.old.outs ++ actions.ToClient self.old.number (spelling number payload.now) ∷ [] }) }
         ensures next { IfOk result (λ next. next ≡ number_behind number payload.now) }
+        ensures err { OnErr result (Holds self.old self.new) }
     {
         let mut bytes = Vec::new(self.alloc);
         let next = frame(payload, number, &mut bytes)?;
@@ -54,7 +57,8 @@ impl Session {
 
     /// Answers a command by a payload of the proxy's own.
     fn answer(&mut self, number: u8, payload: &[u8]) -> Result<(), AllocError>
-        ensures { OnOk result (self.new ≡ record self.old { outs = self.old.outs ++ actions.ToClient self.old.number (spelling number payload.now) ∷ [] }) }
+        ensures ok { OnOk result (self.new ≡ record self.old { outs = self.old.outs ++ actions.ToClient self.old.number (spelling number payload.now) ∷ [] }) }
+        ensures err { OnErr result (Holds self.old self.new) }
     {
         self.tell(number, payload)?;
         Ok(())
@@ -68,7 +72,8 @@ impl Session {
         payload: &[u8],
         outcome: Option<Outcome>,
     ) -> Result<(), AllocError>
-        ensures { OnOk result (self.new ≡ gives (outs.Pass number link payload.now outcome) self.old) }
+        ensures ok { OnOk result (self.new ≡ gives (outs.Pass number link payload.now outcome) self.old) }
+        ensures err { OnErr result (Holds self.old self.new) }
     {
         let next = self.tell(number, payload)?;
         self.go_on_behind(next, link, outcome);
@@ -93,7 +98,8 @@ impl Session {
 
     /// Gives a link up.
     fn drop_link(&mut self, link: u64, cause: DropCause) -> Result<(), AllocError>
-        ensures { OnOk result (self.new ≡ gives (outs.Drop link cause) self.old) }
+        ensures ok { OnOk result (self.new ≡ gives (outs.Drop link cause) self.old) }
+        ensures err { OnErr result (Holds self.old self.new) }
     {
         if is_loss(cause) {
             self.owe_loss(link)?;
@@ -105,11 +111,12 @@ impl Session {
 
     /// A link is lost: what this means for the session is owed.
     pub(super) fn owe_loss(&mut self, link: u64) -> Result<(), AllocError>
-        ensures { OnOk result (self.new ≡ record self.old {
+        ensures ok { OnOk result (self.new ≡ record self.old {
           state = record self.old.state {
             owed = map erased (after_loss_by (loss_in link self.old.state)) ++ self.old.state.owed;
           };
         }) }
+        ensures err { OnErr result (Holds self.old self.new) }
     {
         match closing(
             self.told_from == Some(link),
@@ -123,7 +130,8 @@ impl Session {
 
     /// Owes something before what is owed already.
     pub(super) fn owe(&mut self, out: Out) -> Result<(), AllocError>
-        ensures { OnOk result (self.new ≡ record self.old { state = record self.old.state { owed = Some out ∷ self.old.state.owed } }) }
+        ensures ok { OnOk result (self.new ≡ record self.old { state = record self.old.state { owed = Some out ∷ self.old.state.owed } }) }
+        ensures err { OnErr result (Holds self.old self.new) }
     {
         self.owed.push_front(out)?;
         Ok(())
@@ -131,7 +139,8 @@ impl Session {
 
     /// Closes the session.
     fn close(&mut self, reason: CloseReason) -> Result<(), AllocError>
-        ensures { OnOk result (self.new ≡ gives (outs.Close reason) self.old) }
+        ensures ok { OnOk result (self.new ≡ gives (outs.Close reason) self.old) }
+        ensures err { OnErr result (Holds self.old self.new) }
     {
         self.owe_farewells()?;
         self.outs.push_back(Action::Close {
@@ -144,11 +153,12 @@ impl Session {
 
     /// What is owed is that the links are given up, and nothing else.
     pub(super) fn owe_farewells(&mut self) -> Result<(), AllocError>
-        ensures { OnOk result (self.new ≡ record self.old {
+        ensures ok { OnOk result (self.new ≡ record self.old {
           state = record self.old.state {
             owed = map (λ link. Some (outs.Drop link.number causes.End)) self.old.state.links;
           };
         }) }
+        ensures err { OnErr result (Holds self.old self.new) }
     {
         farewells(self.links.as_slice(), &mut self.owed)
     }

@@ -1,11 +1,11 @@
 //! What comes to a session from outside changes what it keeps here, and nowhere else.
-ghost use Rattle.std.specs.Prelude.{◌≡◌, ◌++◌, List, IfOk, OnOk};
+ghost use Rattle.std.specs.Prelude.{◌≡◌, ◌++◌, List, true, IfOk, OnErr, OnOk};
 ghost use Rattle.rws_config.specs.declared.config.Config.{Config};
 ghost use Rattle.rws_record.specs.Item.{Item};
-ghost use Rattle.rws_session.specs.Table.{at, fed};
-ghost use Rattle.rws_session.specs.Kept.{Stands};
+ghost use Rattle.rws_session.specs.Table.{at, fed, without_number};
+ghost use Rattle.rws_session.specs.Kept.{Holds, Stands};
 ghost use Rattle.rws_session.specs.Turning.{heard};
-ghost use Rattle.rws_session.specs.Steps.{Hears, ends, loses};
+ghost use Rattle.rws_session.specs.Steps.{Hears, HearsInPart, ends, loses};
 
 use crate::SessionInput;
 use crate::session::Session;
@@ -15,8 +15,10 @@ impl Session {
     /// Takes an input in, and says whether it was heard: a session that is over hears nothing, and a link that it doesn't
     /// have is none of its business.
     pub(super) fn hear(&mut self, input: SessionInput) -> Result<bool, AllocError>
-        ensures { (config : Config) (past : List Item) → Stands config self.old past
+        ensures ok { (config : Config) (past : List Item) → Stands config self.old past
             → IfOk result (λ went. Hears config (heard input past) past went self.old self.new) }
+        ensures err { (config : Config) (past : List Item) → Stands config self.old past
+            → OnErr result (HearsInPart (heard input past) past self.old self.new) }
     {
         if self.ended() {
             return Ok(false);
@@ -49,37 +51,39 @@ impl Session {
 
     /// Puts bytes behind those that the client's stream holds.
     fn feed_client(&mut self, bytes: &[u8]) -> Result<(), AllocError>
-        ensures { OnOk result (self.new ≡ record self.old {
+        ensures ok { OnOk result (self.new ≡ record self.old {
           state = record self.old.state {
             client = record self.old.state.client { held = self.old.state.client.held ++ bytes.now };
           };
         }) }
+        ensures err { OnErr result (Holds self.old self.new) }
     {
         self.client.feed(bytes)
     }
 
     /// Puts bytes behind those that a link's stream holds.
     fn feed_link(&mut self, link: u64, bytes: &[u8]) -> Result<(), AllocError>
-        ensures { OnOk result (self.new ≡ record self.old { state = record self.old.state { links = at link (fed bytes.now) self.old.state.links } }) }
+        ensures ok { OnOk result (self.new ≡ record self.old { state = record self.old.state { links = at link (fed bytes.now) self.old.state.links } }) }
+        ensures err { OnErr result (Holds self.old self.new) }
     {
         self.links.feed(link, bytes)
     }
 
     /// The client is gone: the session is over, and gives up its links.
     fn leave(&mut self) -> Result<(), AllocError>
-        ensures { OnOk result (self.new ≡ record self.old { state = ends self.old.state }) }
+        ensures ok { OnOk result (self.new ≡ record self.old { state = ends self.old.state }) }
+        ensures err { OnErr result (Holds (record self.old { state = record self.old.state { over = true } }) self.new) }
     {
-        self.owe_farewells()?;
         self.finish();
-        Ok(())
+        self.owe_farewells()
     }
 
     /// The server closed a link.
     fn lose_link(&mut self, link: u64) -> Result<(), AllocError>
-        ensures { OnOk result (self.new ≡ record self.old { state = loses link self.old.state }) }
+        ensures ok { OnOk result (self.new ≡ record self.old { state = loses link self.old.state }) }
+        ensures err { OnErr result (Holds (record self.old { state = record self.old.state { links = without_number link self.old.state.links } }) self.new) }
     {
-        self.owe_loss(link)?;
         self.links.remove(link);
-        Ok(())
+        self.owe_loss(link)
     }
 }

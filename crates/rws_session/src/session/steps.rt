@@ -1,25 +1,27 @@
 //! The steps of a session: each kind is tried, and goes where it is due.
 //!
-//! What is owed comes first. Where nothing is owed and the session isn't over, the pending command is sent, then what came on
-//! the links is read, and then the client's next command is taken up.
-ghost use Rattle.std.specs.Prelude.{◌≡◌, ◌∷◌, ◌++◌, ℕ, List, [], false, map, Some, None, IfOk, OnOk, MatchOption, ◌&&◌, is_some, is_none};
+//! What is owed comes first. Where nothing is owed and the session isn't over, the pending command is sent, then a flood behind
+//! it is refused, then what came on the links is read, and then the client's next command is taken up.
+ghost use Rattle.std.specs.Prelude.{◌≡◌, ◌∷◌, ◌++◌, ℕ, List, [], false, map, Some, None, IfOk, OnErr, OnOk, MatchOption, ◌&&◌, is_some, is_none, ◌+◌, length};
 ghost use Rattle.rws_wire.specs.Deframing.{HandsOut};
 ghost use Rattle.rws_config.specs.declared.config.Config.{Config};
+ghost use Rattle.rws_config.specs.declared.limits.TheConstants.{FLOOD_ROOM};
 ghost use Rattle.rws_record.specs.Item.{Item};
 ghost use Rattle.rws_record.specs.Item.Put.{Tells, Closes};
 ghost use Rattle.rws_record.specs.Item.Tell.{Refuses};
 ghost use Rattle.rws_record.specs.Judging.{judged};
 ghost use Rattle.rws_record.specs.Values.{is_over, links};
-ghost use Rattle.rws_record.specs.Rules.{after_fault, due_arrival, due_send, due_take, next, owed, unasked};
+ghost use Rattle.rws_record.specs.Rules.{after_fault, due_arrival, due_flood, flood_by, due_send, due_take, next, owed, unasked};
 ghost use Rattle.rws_session.specs.State.{erased, link_of};
 ghost use Rattle.rws_session.specs.Table.{AreDistinct, AreSound, ReadsFirst};
-ghost use Rattle.rws_session.specs.Kept.{Is};
+ghost use Rattle.rws_session.specs.Kept.{Holds, Is};
 ghost use Rattle.rws_session.specs.Steps.{SendsPending, Tries, due_put, owes, owes_for, owes_reply, sendable_by, takes};
 
 use crate::link::{Arrival, Awaited};
 use crate::owing::Out;
 use crate::session::Session;
 use rws_board::Action;
+use rws_config::FLOOD_ROOM;
 use rws_msgs::status::AUTOCOMMIT;
 use rws_record::{Command, ProxyError, Request};
 use rws_reply::{Kind, Progress, ReplyTracker};
@@ -32,8 +34,9 @@ const OWN_STATUS: u16 = AUTOCOMMIT;
 impl Session {
     /// Makes the next step, and says whether there was one.
     pub(super) fn step(&mut self) -> Result<bool, AllocError>
-        ensures { (config : Config) (past : List Item) → Is config self.old past
+        ensures ok { (config : Config) (past : List Item) → Is config self.old past
             → IfOk result (λ went. Tries config (next config past) past went self.old self.new) }
+        ensures err { (config : Config) (past : List Item) → Is config self.old past → OnErr result (Holds self.old self.new) }
     {
         if self.pay()? {
             return Ok(true);
@@ -44,6 +47,9 @@ impl Session {
         if self.send()? {
             return Ok(true);
         }
+        if self.refuse_flood()? {
+            return Ok(true);
+        }
         if self.read_links()? {
             return Ok(true);
         }
@@ -52,8 +58,9 @@ impl Session {
 
     /// Gives out what is owed first.
     fn pay(&mut self) -> Result<bool, AllocError>
-        ensures { (config : Config) (past : List Item) → Is config self.old past
+        ensures ok { (config : Config) (past : List Item) → Is config self.old past
             → IfOk result (λ went. Tries config (due_put (owed past)) past went self.old self.new) }
+        ensures err { OnErr result (Holds self.old self.new) }
     {
         match self.next_owed() {
             None => Ok(false),
@@ -75,8 +82,9 @@ impl Session {
 
     /// Sends the pending command, where it isn't sent yet.
     fn send(&mut self) -> Result<bool, AllocError>
-        ensures { (config : Config) (past : List Item) → Is config self.old past → owed past ≡ []
+        ensures ok { (config : Config) (past : List Item) → Is config self.old past → owed past ≡ []
             → IfOk result (λ went. Tries config (due_send past) past went self.old self.new) }
+        ensures err { OnErr result (Holds self.old self.new) }
     {
         match self.sendable() {
             None => Ok(false),
@@ -110,7 +118,8 @@ impl Session {
 
     /// Sends the pending command on a link.
     fn send_pending(&mut self, link: u64) -> Result<(), AllocError>
-        ensures { OnOk result (SendsPending link self.old.state.pending self.old self.new) }
+        ensures ok { OnOk result (SendsPending link self.old.state.pending self.old self.new) }
+        ensures err { OnErr result (Holds self.old self.new) }
     {
         let Some(command) = &self.pending else {
             return Ok(());
@@ -127,10 +136,42 @@ impl Session {
         Ok(())
     }
 
+    /// Breaks the session off where the client sent on too far behind the pending command.
+    fn refuse_flood(&mut self) -> Result<bool, AllocError>
+        ensures ok { (config : Config) (past : List Item) → Is config self.old past → owed past ≡ []
+            → IfOk result (λ went. Tries config (due_flood config past) past went self.old self.new) }
+        ensures err { OnErr result (Holds self.old self.new) }
+    {
+        match self.flood() {
+            None => Ok(false),
+            Some(held) => {
+                self.break_off(ProxyError::CommandTooLarge, CloseReason::Flooded { held })?;
+                Ok(true)
+            }
+        }
+    }
+
+    /// The first number of bytes above what the client may have sent behind the pending command, where so many are held.
+    fn flood(&self) -> Option<u64>
+        ensures { result ≡ flood_by self.now.state.pending (self.now.state.client.limit + FLOOD_ROOM)
+            (length self.now.state.client.held) }
+    {
+        if !self.is_busy() {
+            return None;
+        }
+        let held = self.client.held();
+        let limit = self.client.limit().saturating_add(FLOOD_ROOM);
+        if held > limit {
+            return Some(limit + 1);
+        }
+        None
+    }
+
     /// Reads what came on the links, in order of number, up to the first thing that is whole.
     fn read_links(&mut self) -> Result<bool, AllocError>
-        ensures { (config : Config) (past : List Item) → Is config self.old past → owed past ≡ []
+        ensures ok { (config : Config) (past : List Item) → Is config self.old past → owed past ≡ [] → is_over past ≡ false
             → IfOk result (λ went. Tries config (due_arrival (links past) past) past went self.old self.new) }
+        ensures err { OnErr result (Holds self.old self.new) }
     {
         match self.next_arrival()? {
             None => Ok(false),
@@ -146,17 +187,19 @@ impl Session {
         ensures reads { (past : List Item) (numbers : List ℕ) → self.old.state.links ≡ map (link_of past) numbers → AreDistinct numbers
             → AreSound past numbers → IfOk result (λ found. ReadsFirst past numbers found self.new.state.links) }
         ensures rest { self.new ≡ record self.old { state = record self.old.state { links = self.new.state.links } } }
+        ensures holds { Holds self.old self.new }
     {
-        self.links.read()
+        self.links.read(self.alloc)
     }
 
     /// Decides what follows on what a link's bytes completed.
     fn take_arrival(&mut self, link: u64, arrival: Arrival) -> Result<(), AllocError>
-        ensures { OnOk result (self.new ≡ record self.old {
+        ensures ok { OnOk result (self.new ≡ record self.old {
           state = record self.old.state {
             owed = owes_for link arrival self.old.state.reply_number ++ self.old.state.owed;
           };
         }) }
+        ensures err { OnErr result (Holds self.old self.new) }
     {
         match arrival {
             Arrival::Stray => self.owe(Out::Drop {
@@ -169,14 +212,15 @@ impl Session {
             }),
             Arrival::Reply {
                 payload,
+                form,
                 next: _,
                 progress,
                 behind,
-            } => self.take_reply(link, payload, progress, behind),
+            } => self.take_reply(link, form.unwrap_or(payload), progress, behind),
         }
     }
 
-    /// Decides what follows on a payload of the pending command's reply.
+    /// Decides what follows on a payload of the pending command's reply, in the client's form.
     fn take_reply(
         &mut self,
         link: u64,
@@ -184,11 +228,12 @@ impl Session {
         progress: Option<Progress>,
         behind: bool,
     ) -> Result<(), AllocError>
-        ensures { OnOk result (self.new ≡ record self.old {
+        ensures ok { OnOk result (self.new ≡ record self.old {
           state = record self.old.state {
             owed = owes_reply link payload progress behind self.old.state.reply_number ++ self.old.state.owed;
           };
         }) }
+        ensures err { OnErr result (Holds self.old self.new) }
     {
         let number = self.reply_number;
         match progress {
@@ -216,7 +261,8 @@ impl Session {
 
     /// A byte behind a whole reply costs the link.
     fn owe_unasked(&mut self, link: u64, behind: bool) -> Result<(), AllocError>
-        ensures { OnOk result (self.new ≡ record self.old { state = owes (unasked link behind) self.old.state }) }
+        ensures ok { OnOk result (self.new ≡ record self.old { state = owes (unasked link behind) self.old.state }) }
+        ensures err { OnErr result (Holds self.old self.new) }
     {
         if behind {
             return self.owe(Out::Drop {
@@ -229,8 +275,9 @@ impl Session {
 
     /// Takes up the client's next command, or the fault of its packets, where none is pending.
     fn take_up(&mut self) -> Result<bool, AllocError>
-        ensures { (config : Config) (past : List Item) → Is config self.old past → owed past ≡ [] → is_over past ≡ false
+        ensures ok { (config : Config) (past : List Item) → Is config self.old past → owed past ≡ [] → is_over past ≡ false
             → IfOk result (λ went. Tries config (due_take config past) past went self.old self.new) }
+        ensures err { OnErr result (Holds self.old self.new) }
     {
         if self.is_busy() {
             return Ok(false);
@@ -266,7 +313,8 @@ impl Session {
 
     /// Takes up a command, whose reply begins with the packet number `number`.
     fn take(&mut self, payload: Text, number: u8) -> Result<(), AllocError>
-        ensures { OnOk result (self.new ≡ record self.old { state = takes (judged payload number) number self.old.state }) }
+        ensures ok { OnOk result (self.new ≡ record self.old { state = takes (judged payload number) number self.old.state }) }
+        ensures err { OnErr result (Holds self.old self.new) }
     {
         self.begin_reply(number);
         match Request::of(payload.as_slice()) {
@@ -322,7 +370,8 @@ impl Session {
 
     /// The client's packets can't be read on.
     fn take_fault(&mut self, fault: WireFault) -> Result<(), AllocError>
-        ensures { OnOk result (self.new ≡ record self.old { state = owes (after_fault fault) self.old.state }) }
+        ensures ok { OnOk result (self.new ≡ record self.old { state = owes (after_fault fault) self.old.state }) }
+        ensures err { OnErr result (Holds self.old self.new) }
     {
         match fault {
             WireFault::OutOfOrder { want, got } => self.break_off(
@@ -340,7 +389,8 @@ impl Session {
 
     /// The client is told an error in a packet of number 1, and the session closed.
     fn break_off(&mut self, error: ProxyError, reason: CloseReason) -> Result<(), AllocError>
-        ensures { OnOk result (self.new ≡ record self.old { state = owes (Tells 1 (Refuses error) ∷ Closes reason ∷ []) self.old.state }) }
+        ensures ok { OnOk result (self.new ≡ record self.old { state = owes (Tells 1 (Refuses error) ∷ Closes reason ∷ []) self.old.state }) }
+        ensures err { OnErr result (Holds self.old self.new) }
     {
         self.owe(Out::Close { reason })?;
         self.owe(Out::Refuse { number: 1, error })

@@ -8,5 +8,5 @@ returns c = (
   refl,
   c.new.ensures.items,
   begun_stands c.args.config.now c.args.link c.args.server _
-      (rw (c.new-2.ensures, c.in_ok-begin.ensures, c.new-3.ensures.items, itself c.args.link) refl),
+      (rw (c.new-2.ensures, c.in_ok-begin.ensures, c.new-3.ensures.items, c.in_ok-reserve_farewell.ensures, itself c.args.link) refl),
 )

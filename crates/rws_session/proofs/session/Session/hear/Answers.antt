@@ -1,34 +1,55 @@
 use Rattle.std.proofs.Common.{sym, ◌∙◌}
+use Rattle.rws_session.proofs.BreakLemmas.{hears_part_of_bytes, hears_part_of_client, hears_part_of_gone, hears_part_of_loss, on_err}
 use Rattle.rws_session.proofs.TurnLemmas.{hears_bytes, hears_client, hears_gone, hears_loss, hears_no_bytes, hears_no_loss}
 use Rattle.rws_session.proofs.session.Session.hear.Goals as goal
 
-pub returns-in_ok-feed_client-in-Client : goal.returns-in_ok-feed_client-in-Client
-returns-in_ok-feed_client-in-Client c = λ config past stands.
+pub returns-in_ok-feed_client-in-Client-clause-ok : goal.returns-in_ok-feed_client-in-Client-clause-ok
+returns-in_ok-feed_client-in-Client-clause-ok c = λ config past stands.
     rw c.in-Client.is (hears_client config past c.in-Client.bytes c.args.self.now c.feed_client.new.self stands (sym c.ended.ensures ∙ c.if-ended.false)
-    (rw c.as_slice.ensures at c.in_ok-feed_client-in-Client.ensures))
+    (rw c.as_slice.ensures at c.in_ok-feed_client-in-Client.ensures.ok))
 
-pub returns-in_ok-leave-in-ClientGone : goal.returns-in_ok-leave-in-ClientGone
-returns-in_ok-leave-in-ClientGone c = λ config past stands.
+pub returns-in_ok-leave-in-ClientGone-clause-ok : goal.returns-in_ok-leave-in-ClientGone-clause-ok
+returns-in_ok-leave-in-ClientGone-clause-ok c = λ config past stands.
     rw c.in-ClientGone.is (hears_gone config past c.args.self.now c.leave.new.self stands (sym c.ended.ensures ∙ c.if-ended.false)
-    c.in_ok-leave-in-ClientGone.ensures)
+    c.in_ok-leave-in-ClientGone.ensures.ok)
 
-pub returns-then-not-has : goal.returns-then-not-has
-returns-then-not-has c = λ config past stands.
+pub returns-then-not-has-clause-ok : goal.returns-then-not-has-clause-ok
+returns-then-not-has-clause-ok c = λ config past stands.
     rw c.in-Link.is (hears_no_bytes config past c.in-Link.link c.in-Link.bytes c.args.self.now stands (sym c.ended.ensures ∙ c.if-ended.false)
     c.if-not-has.ensures)
 
-pub returns-in_ok-feed_link-in-Link : goal.returns-in_ok-feed_link-in-Link
-returns-in_ok-feed_link-in-Link c = λ config past stands.
+pub returns-in_ok-feed_link-in-Link-clause-ok : goal.returns-in_ok-feed_link-in-Link-clause-ok
+returns-in_ok-feed_link-in-Link-clause-ok c = λ config past stands.
     rw c.in-Link.is (hears_bytes config past c.in-Link.link c.in-Link.bytes c.args.self.now c.feed_link.new.self stands
     (sym c.ended.ensures ∙ c.if-ended.false) c.if-not-has.ensures
-    (rw c.as_slice-in-Link.ensures at c.in_ok-feed_link-in-Link.ensures))
+    (rw c.as_slice-in-Link.ensures at c.in_ok-feed_link-in-Link.ensures.ok))
 
-pub returns-then-not-has-2 : goal.returns-then-not-has-2
-returns-then-not-has-2 c = λ config past stands.
+pub returns-then-not-has-2-clause-ok : goal.returns-then-not-has-2-clause-ok
+returns-then-not-has-2-clause-ok c = λ config past stands.
     rw c.in-LinkGone.is (hears_no_loss config past c.in-LinkGone.link c.args.self.now stands (sym c.ended.ensures ∙ c.if-ended.false)
     c.if-not-has-2.ensures)
 
-pub returns-in_ok-lose_link-in-LinkGone : goal.returns-in_ok-lose_link-in-LinkGone
-returns-in_ok-lose_link-in-LinkGone c = λ config past stands.
+pub returns-in_ok-lose_link-in-LinkGone-clause-ok : goal.returns-in_ok-lose_link-in-LinkGone-clause-ok
+returns-in_ok-lose_link-in-LinkGone-clause-ok c = λ config past stands.
     rw c.in-LinkGone.is (hears_loss config past c.in-LinkGone.link c.args.self.now c.lose_link.new.self stands (sym c.ended.ensures ∙ c.if-ended.false)
-    c.if-not-has-2.ensures c.in_ok-lose_link-in-LinkGone.ensures)
+    c.if-not-has-2.ensures c.in_ok-lose_link-in-LinkGone.ensures.ok)
+
+pub returns-in_err-feed_client-in-Client-clause-err : goal.returns-in_err-feed_client-in-Client-clause-err
+returns-in_err-feed_client-in-Client-clause-err c = λ config past stands.
+    rw c.in-Client.is (on_err _ (hears_part_of_client config past c.in-Client.bytes c.args.self.now c.feed_client.new.self stands
+    (sym c.ended.ensures ∙ c.if-ended.false) c.in_err-feed_client-in-Client.ensures.err))
+
+pub returns-in_err-leave-in-ClientGone-clause-err : goal.returns-in_err-leave-in-ClientGone-clause-err
+returns-in_err-leave-in-ClientGone-clause-err c = λ config past stands.
+    rw c.in-ClientGone.is (on_err _ (hears_part_of_gone config past c.args.self.now c.leave.new.self stands (sym c.ended.ensures ∙ c.if-ended.false)
+    c.in_err-leave-in-ClientGone.ensures.err))
+
+pub returns-in_err-feed_link-in-Link-clause-err : goal.returns-in_err-feed_link-in-Link-clause-err
+returns-in_err-feed_link-in-Link-clause-err c = λ config past stands.
+    rw c.in-Link.is (on_err _ (hears_part_of_bytes config past c.in-Link.link c.in-Link.bytes c.args.self.now c.feed_link.new.self stands
+    (sym c.ended.ensures ∙ c.if-ended.false) c.if-not-has.ensures c.in_err-feed_link-in-Link.ensures.err))
+
+pub returns-in_err-lose_link-in-LinkGone-clause-err : goal.returns-in_err-lose_link-in-LinkGone-clause-err
+returns-in_err-lose_link-in-LinkGone-clause-err c = λ config past stands.
+    rw c.in-LinkGone.is (on_err _ (hears_part_of_loss config past c.in-LinkGone.link c.args.self.now c.lose_link.new.self stands
+    (sym c.ended.ensures ∙ c.if-ended.false) c.if-not-has-2.ensures c.in_err-lose_link-in-LinkGone.ensures.err))
