@@ -20,6 +20,8 @@ use Rattle.rws_board.specs.declared.action.Action.TheVariants.{ToClient, ToLink,
 use Rattle.rws_board.specs.declared.event.Event.{Event}
 use Rattle.rws_board.specs.declared.event.Event.TheVariants.{Begin, ClientBytes, ClientGone, LinkBytes, LinkGone, End}
 use Rattle.rws_config.specs.BuiltIn.{built_in}
+use Rattle.rws_record.specs.declared.command.Command.{Command}
+use Rattle.rws_record.specs.Rules.{flood_by, flood_limit}
 use Rattle.rws_record.specs.Item.Item.{Starves}
 use Rattle.rws_record.specs.Values.{is_starved}
 use Rattle.rws_record.specs.Record.{CanBeMade}
@@ -465,3 +467,18 @@ unfolding lenenc lenenc_bytes full_packet spelling number_behind payload_behind 
 want_for_a_session =
     wants_in 1 1 false [] (Begin 1 0) (Begin 2 0 ∷ from_client 1 (codes "010000000e") ∷ from_client 2 (codes "010000000e") ∷ End ∷ [])
     _ refl refl refl tt refl refl
+
+-- Floods under the built-in settings: nothing is too much at the limit, or while no command is pending; above it, it is the
+-- first number above, however many bytes came
+
+at_the_limit : (command : Command) → flood_by (Some command) (flood_limit built_in) 68157440 ≡ None
+at_the_limit command = refl
+
+above_it : (command : Command) → flood_by (Some command) (flood_limit built_in) 68157441 ≡ Some 68157441
+above_it command = refl
+
+far_above_it : (command : Command) → flood_by (Some command) (flood_limit built_in) 100000000 ≡ Some 68157441
+far_above_it command = refl
+
+none_pending : flood_by None (flood_limit built_in) 100000000 ≡ None
+none_pending = refl

@@ -74,7 +74,42 @@ fn files(alloc: Global, fails: &[u64]) -> Result<MemFiles, Fail> {
     Ok(MemFiles::new(files, CallList::from_slice(alloc, fails)?))
 }
 
-/// Runs the program over an input and an output of which some calls fail: its status, and what it printed.
+/// The calls that fail, by their numbers from 0: of the input, of the output, and of the files.
+#[derive(Clone, Copy)]
+struct Fails<'a> {
+    reads: &'a [u64],
+    writes: &'a [u64],
+    files: &'a [u64],
+}
+
+/// No call fails.
+const NONE: Fails<'static> = Fails {
+    reads: &[],
+    writes: &[],
+    files: &[],
+};
+
+/// Runs the program over an input and an output with so much room, of which some calls fail: its status, and what it printed.
+fn run_with(
+    alloc: Global,
+    room: u64,
+    words: &[&str],
+    input: &[u8],
+    fails: &Fails<'_>,
+) -> Result<(u8, MemSink), Fail> {
+    let mut owned = Vec::new(alloc);
+    for word in words {
+        owned.push(String::from_str(alloc, word)?)?;
+    }
+    let bytes = Text::from_slice(alloc, input)?;
+    let mut source = MemSource::new(bytes, CallList::from_slice(alloc, fails.reads)?);
+    let mut sink = MemSink::new(alloc, room, CallList::from_slice(alloc, fails.writes)?)?;
+    let mut files = files(alloc, fails.files)?;
+    let status = run_here(alloc, &owned, &mut source, &mut sink, &mut files);
+    Ok((status, sink))
+}
+
+/// The same, where what is printed is short.
 fn run_over(
     alloc: Global,
     words: &[&str],
@@ -82,26 +117,17 @@ fn run_over(
     read_fails: &[u64],
     write_fails: &[u64],
 ) -> Result<(u8, MemSink), Fail> {
-    run_with(alloc, words, input, (read_fails, write_fails, &[]))
+    let fails = Fails {
+        reads: read_fails,
+        writes: write_fails,
+        files: &[],
+    };
+    run_with(alloc, 1024, words, input, &fails)
 }
 
-/// The same with files of which some calls fail too.
-fn run_with(
-    alloc: Global,
-    words: &[&str],
-    input: &[u8],
-    fails: (&[u64], &[u64], &[u64]),
-) -> Result<(u8, MemSink), Fail> {
-    let mut owned = Vec::new(alloc);
-    for word in words {
-        owned.push(String::from_str(alloc, word)?)?;
-    }
-    let bytes = Text::from_slice(alloc, input)?;
-    let mut source = MemSource::new(bytes, CallList::from_slice(alloc, fails.0)?);
-    let mut sink = MemSink::new(alloc, 1024, CallList::from_slice(alloc, fails.1)?)?;
-    let mut files = files(alloc, fails.2)?;
-    let status = run_here(alloc, &owned, &mut source, &mut sink, &mut files);
-    Ok((status, sink))
+/// The same with the words of a trace, where no call fails.
+pub fn run_in(alloc: Global, room: u64, input: &[u8]) -> Result<(u8, MemSink), Fail> {
+    run_with(alloc, room, &TRACE, input, &NONE)
 }
 
 #[test]
@@ -160,7 +186,11 @@ const WITH_FILES: [(&[&str], &[u64], u8, &[u8]); 6] = [
 #[test]
 fn settings_come_from_a_file(rt: HostRuntime) -> Result<(), Fail> {
     for (words, fails, status, printed) in &WITH_FILES {
-        let (ended, sink) = run_with(rt.alloc(), words, A_PING, (&[], &[], fails))?;
+        let fails = Fails {
+            files: fails,
+            ..NONE
+        };
+        let (ended, sink) = run_with(rt.alloc(), 1024, words, A_PING, &fails)?;
         assert_eq!(rt; ended, *status);
         assert_eq!(rt; sink.as_slice(), *printed);
     }
