@@ -21,4 +21,6 @@ pub use rws_native::Login;
 pub use step::FrontStep;
 
 #[cfg(test)]
+mod captured;
+#[cfg(test)]
 mod tests;

@@ -203,12 +203,12 @@ const LOGIN_AND_COMMANDS: &[u8] =
 
 /// What a front did in a connection.
 #[derive(Drop)]
-struct Connection {
-    sent: Text,
-    login: Option<Login>,
+pub(super) struct Connection {
+    pub sent: Text,
+    pub login: Option<Login>,
     /// The commands' bytes, one behind the other.
-    commands: Text,
-    closed: Option<CloseReason>,
+    pub commands: Text,
+    pub closed: Option<CloseReason>,
 }
 
 /// Takes steps until the front waits for bytes or has ended, and then some more.
@@ -236,13 +236,18 @@ fn go_on(
     Ok(())
 }
 
-/// A connection in which the client's bytes come in pieces of this size.
-fn connect(alloc: Global, client: &[u8], size: usize) -> Result<Connection, AllocError>
+/// A connection with this scramble, in which the client's bytes come in pieces of this size.
+pub(super) fn connect(
+    alloc: Global,
+    scramble: [u8; 20],
+    client: &[u8],
+    size: usize,
+) -> Result<Connection, AllocError>
     requires { 0 < size }
 {
     let mut config = built_in(alloc)?;
     config.command_bytes = 0x10_0000;
-    let mut front = Front::new(alloc, 2, SCRAMBLE, &config);
+    let mut front = Front::new(alloc, 2, scramble, &config);
     let mut connection = Connection {
         sent: Text::empty(alloc),
         login: None,
@@ -261,7 +266,7 @@ fn connect(alloc: Global, client: &[u8], size: usize) -> Result<Connection, Allo
 fn rows(rt: HostRuntime) -> Result<(), Fail> {
     for row in &ROWS {
         for size in [1, 4096] {
-            let connection = connect(rt.alloc(), row.client, size)?;
+            let connection = connect(rt.alloc(), SCRAMBLE, row.client, size)?;
             assert_eq!(rt;
                 connection.sent.as_slice().strip_prefix(GREETING),
                 Some(row.front)
@@ -277,7 +282,7 @@ fn rows(rt: HostRuntime) -> Result<(), Fail> {
 fn reply_to_cut(alloc: Global, response: &[u8], len: usize) -> Result<Text, AllocError> {
     let mut client = Vec::from_slice(alloc, &[(len % 256) as u8, 0, 0, 1])?;
     client.extend(response.iter().take(len).copied())?;
-    let sent = connect(alloc, client.as_slice(), 4096)?.sent;
+    let sent = connect(alloc, SCRAMBLE, client.as_slice(), 4096)?.sent;
     Text::from_slice(alloc, sent.as_slice().strip_prefix(GREETING).unwrap_or(&[]))
 }
 
@@ -311,7 +316,7 @@ fn cut_responses(rt: HostRuntime) -> Result<(), Fail> {
 #[test]
 fn login_and_commands(rt: HostRuntime) -> Result<(), Fail> {
     let alloc = rt.alloc();
-    let connection = connect(alloc, LOGIN_AND_COMMANDS, 7)?;
+    let connection = connect(alloc, SCRAMBLE, LOGIN_AND_COMMANDS, 7)?;
     assert_eq!(rt;
         connection.commands.as_slice(),
         b"\x0e\x03select 1".as_slice()

@@ -17,4 +17,6 @@ pub use handles::{Handles, MAX_HANDLES};
 pub use law::plain_forms_stay;
 
 #[cfg(test)]
+mod captured;
+#[cfg(test)]
 mod tests;
