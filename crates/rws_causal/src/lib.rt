@@ -9,3 +9,4 @@ mod causal;
 mod tests;
 
 pub use causal::{Causal, after_probe, after_wait, begin};
+pub use rws_wire::Mode;

@@ -52,32 +52,38 @@ fn three_commands(alloc: Global) -> Result<ReplayLog, SentFault> {
     Ok(log)
 }
 
+/// What the comparison of the next reply says; None where there is nothing to compare it with.
+fn compared(
+    replayer: &mut Replayer,
+    log: &ReplayLog,
+    sum: &Digest,
+) -> Option<Result<(), Mismatch>> {
+    match replayer.next() {
+        Some(at) if at < log.len() => Some(replayer.compare(log, sum)),
+        _ => None,
+    }
+}
+
 #[test]
 fn a_replay_from_its_first_command(rt: HostRuntime) -> Result<(), Fail> {
     let log = three_commands(rt.alloc())?;
-    let mut replayer = Replayer::new(2);
-    for sum in [FIRST, SECOND] {
-        match replayer.next() {
-            Some(at) if at < log.len() => assert!(rt; replayer.compare(&log, &sum).is_ok()),
-            _ => assert!(rt; false),
-        }
-    }
-    assert_eq!(rt; replayer.next(), None);
+    let mut replayer = Replayer::new(log.len());
+    assert_eq!(rt; compared(&mut replayer, &log, &FIRST), Some(Ok(())));
+    assert_eq!(rt; compared(&mut replayer, &log, &SECOND), Some(Ok(())));
+    assert_eq!(rt; compared(&mut replayer, &log, &SECOND), None);
     Ok(())
 }
 
 #[test]
 fn another_reply(rt: HostRuntime) -> Result<(), Fail> {
     let log = three_commands(rt.alloc())?;
-    let mut replayer = Replayer::new(2);
-    if replayer.next() == Some(0) && log.len() > 0 {
-        let differs = Mismatch {
-            item: 0,
-            old: FIRST,
-            new: OTHER,
-        };
-        assert_eq!(rt; replayer.compare(&log, &OTHER), Err(differs));
-    }
+    let mut replayer = Replayer::new(log.len());
+    let differs = Mismatch {
+        item: 0,
+        old: FIRST,
+        new: OTHER,
+    };
+    assert_eq!(rt; compared(&mut replayer, &log, &OTHER), Some(Err(differs)));
     assert_eq!(rt; replayer.next(), Some(0));
     Ok(())
 }
