@@ -94,8 +94,7 @@ fn two<R: Threads + Wait + Sync>(
 
 #[test]
 fn parts_made_every_entry(rt: HostRuntime) -> Result<(), Fail> {
-    let pass = one_after_two(&rt, rt.alloc())?;
-    let _ = pass;
+    one_after_two(&rt, rt.alloc())?;
     Ok(())
 }
 

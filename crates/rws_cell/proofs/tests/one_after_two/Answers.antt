@@ -1,4 +1,4 @@
-use Rattle.std.proofs.Common.{List, [], ◌∷◌, sym, subst}
+use Rattle.std.proofs.Common.{[], ◌∷◌, sym, subst}
 use Rattle.rws_pool.specs.declared.events.PoolEvent.TheVariants.{Route, Observe}
 use Rattle.rws_cell.specs.declared.view.View.{View}
 use Rattle.rws_cell.specs.Views.{first_view, left_half, right_half}
