@@ -1,5 +1,5 @@
 -- Where the bytes that came on links are bytes, so are the payloads that are read of them.
-use Rattle.std.proofs.Common.{◌≡◌, ℕ, zero, suc, ◌+◌, ◌<◌, ◌≤◌, Bool, true, false, List, [], ◌∷◌, ◌++◌, length, take, drop, refl, sym, ap, ◌∙◌, arith}
+use Rattle.std.proofs.Common.{◌≡◌, ℕ, zero, suc, ◌<◌, ◌≤◌, Bool, true, false, List, [], ◌∷◌, ◌++◌, length, take, drop, refl, sym, ◌∙◌, arith}
 use Rattle.std.specs.Prelude.{◌==◌, if◌then◌else◌}
 use Rattle.std.specs.List.{AllByRecursion}
 use Rattle.std.proofs.lemmas.List.{length-drop, nil_from_length}
@@ -15,7 +15,7 @@ use Rattle.rws_reply.specs.Replies.{Payload}
 use Rattle.rws_config.specs.declared.config.Config.{Config}
 use Rattle.rws_config.specs.declared.limits.TheConstants.{SERVER_PAYLOAD}
 use Rattle.rws_record.specs.Item.{Item}
-use Rattle.rws_record.specs.Item.Item.{Began, ClientBytes, LinkBytes, ClientGone, LinkLost, Replies, Garbles, Strays, Takes, TakesFault, Floods, Puts}
+use Rattle.rws_record.specs.Item.Item.{Began, ClientBytes, LinkBytes, ClientGone, LinkLost, Replies, Garbles, Strays, Takes, TakesFault, Floods, Puts, Starves}
 use Rattle.rws_record.specs.Item.Put.{Tells, Sends, Drops, Closes}
 use Rattle.rws_record.specs.Values.{exchange, link_held, next_of, rest_of}
 use Rattle.rws_laws.specs.Causes.{AreCaused, came_on}
@@ -111,6 +111,7 @@ held_fits link (Strays from ∷ past) heard = held_fits link past heard
 held_fits link (Takes it number ∷ past) heard = held_fits link past heard
 held_fits link (TakesFault fault ∷ past) heard = held_fits link past heard
 held_fits link (Floods bytes ∷ past) heard = held_fits link past heard
+held_fits link (Starves made ∷ past) heard = held_fits link past heard
 held_fits link (Puts put ∷ past) heard = held_fits link past heard
 
 -- What came of a reply
@@ -144,6 +145,7 @@ came_fits config link (Strays from ∷ past) caused heard = came_fits config lin
 came_fits config link (Takes it number ∷ past) caused heard = came_fits config link past caused.2 heard
 came_fits config link (TakesFault fault ∷ past) caused heard = came_fits config link past caused.2 heard
 came_fits config link (Floods bytes ∷ past) caused heard = came_fits config link past caused.2 heard
+came_fits config link (Starves made ∷ past) caused heard = came_fits config link past caused.2 heard
 came_fits config link (Puts (Tells number tell) ∷ past) caused heard = came_fits config link past caused.1 heard
 came_fits config link (Puts (Drops gone cause) ∷ past) caused heard = came_fits config link past caused.1 heard
 came_fits config link (Puts (Closes reason) ∷ past) caused heard = came_fits config link past caused.1 heard

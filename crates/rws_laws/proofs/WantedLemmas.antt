@@ -1,5 +1,5 @@
 -- How a legal record goes on where memory was wanting: its client is told, the session is closed, and its link is given up.
-use Rattle.std.proofs.Common.{◌≡◌, ℕ, Bool, true, false, List, [], ◌∷◌, length, map, drop, refl, sym, ap, ◌∙◌, inl, inr, Option, Some, None}
+use Rattle.std.proofs.Common.{◌≡◌, ℕ, Bool, true, false, List, [], ◌∷◌, map, drop, refl, sym, ap, ◌∙◌, inl, inr}
 use Rattle.std.specs.Prelude.{◌⊎◌, ◌==◌}
 use Rattle.std.proofs.lemmas.Bool.{eq-eqb}
 use Rattle.rws_wire.specs.declared.close_reason.CloseReason.TheVariants.{Memory}
@@ -11,14 +11,14 @@ use Rattle.rws_record.specs.Item.Item.{Puts, Starves}
 use Rattle.rws_record.specs.Item.Put.{Tells, Drops, Closes}
 use Rattle.rws_record.specs.Item.Tell.{Refuses}
 use Rattle.rws_record.specs.Values.{links, is_over, is_starved}
-use Rattle.rws_record.specs.Rules.{owed, farewells}
+use Rattle.rws_record.specs.Rules.{owed}
 use Rattle.rws_record.specs.Record.{IsRecord, CanBeMade}
 use Rattle.rws_record.specs.Record.IsRecord.{begins, steps, hears, starves}
 use Rattle.rws_record.proofs.StepLemmas.{Step, of_next, rests_owing_nothing}
 use Rattle.rws_record.proofs.StepLemmas.Step.{pays, sends, floods, reads}
 use Rattle.rws_record.proofs.WantLemmas.{input_starved, step_starved}
 use Rattle.rws_laws.specs.Causes.{IsCaused, IsStarvedAndTold, AreCaused}
-use Rattle.rws_laws.proofs.Sound.{Links, has_itself}
+use Rattle.rws_laws.proofs.Sound.{has_itself}
 use Rattle.rws_laws.proofs.OwedLemmas.{few}
 use Rattle.rws_laws.proofs.SoundLemmas.{legal_sound}
 

@@ -1,12 +1,12 @@
 -- What lasts of a session where memory was wanting.
-use Rattle.std.proofs.Common.{◌≡◌, ℕ, Bool, true, false, List, [], ◌∷◌, ◌++◌, map, refl, sym, ap, ◌∙◌, Option, Some, None, Result, Ok, Err}
+use Rattle.std.proofs.Common.{◌≡◌, ℕ, Bool, true, false, List, [], ◌∷◌, map, refl, sym, ap, ◌∙◌, Option, Some, None, Result, Ok, Err}
 use Rattle.std.specs.Prelude.{◌==◌, OnErr}
 use Rattle.std.specs.List.{list_any}
 use Rattle.std.proofs.lemmas.List.{append-nil}
 use Rattle.rws_board.specs.declared.action.Action.{Action}
 use Rattle.rws_config.specs.declared.config.Config.{Config}
 use Rattle.rws_record.specs.Item.{Item}
-use Rattle.rws_record.specs.Values.{contains, is_over, links, without}
+use Rattle.rws_record.specs.Values.{is_over, links, without}
 use Rattle.rws_record.specs.Record.GoesOn.{stays}
 use Rattle.rws_record.specs.Outputs.{actions_of}
 use Rattle.rws_session.specs.declared.link.Link.{Link}
@@ -18,7 +18,7 @@ use Rattle.rws_session.specs.Kept.{Holds, Is, Kept, Lasting, Stands, lasting, la
 use Rattle.rws_session.specs.Steps.{Goes, HearsInPart, Stops}
 use Rattle.rws_session.specs.Turning.{Breaks, heard, heard_open}
 use Rattle.rws_session.proofs.MirrorLemmas.{without_is}
-use Rattle.rws_session.proofs.TurnLemmas.{Hearing, hearing, has}
+use Rattle.rws_session.proofs.TurnLemmas.{hearing, has}
 
 -- what is known is known of an error
 pub on_err : {T E P : Type 0} (result : Result T E) → P → OnErr result P
