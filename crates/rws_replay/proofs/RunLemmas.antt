@@ -4,7 +4,7 @@ use Rattle.std.specs.Prelude.{slice_get}
 use Rattle.std.proofs.lemmas.List.{take_more}
 use Rattle.std.proofs.lemmas.Bool.{ltb-true, ltb-false}
 use Rattle.std.proofs.lemmas.Option.{slice_get_within, get_or_from_slice_get}
-use Rattle.rws_replay.specs.Replays.{Replay, next_item, begun_again}
+use Rattle.rws_replay.specs.Replays.{Replay, next_item}
 use Rattle.rws_replay.specs.Runs.{Runs, begins, compares, is_lost, ReplaysAreWhole}
 
 front_grows : (sums : List (List ℕ)) (at : ℕ) (sum : List ℕ) → slice_get sums at ≡ Some sum → take (at + 1) sums ≡ take at sums ++ sum ∷ []
