@@ -19,11 +19,11 @@ use std::alloc::{AllocError, Global};
 
 /// Who a server says that it is.
 #[derive(Clone, Copy)]
-pub struct Identity {
+struct Identity {
     /// Its `server_id`.
-    pub server_id: u32,
+    server_id: u32,
     /// The sequence of its position in the domain, 0 where it has none.
-    pub position: u64,
+    position: u64,
 }
 
 /// What a server is found to be by its replies to `SELECT @@server_id, @@gtid_current_pos` and `SHOW ALL SLAVES STATUS`; its position is that
