@@ -60,3 +60,39 @@ pub const SESSION_TRACK: u32 = 0x80_0000;
 
 /// CLIENT_DEPRECATE_EOF: an OK stands where an EOF stood.
 pub const DEPRECATE_EOF: u32 = 0x100_0000;
+
+/// What the proxy's greeting offers to its clients.
+pub const OFFERED_TO_CLIENTS: u32 = MYSQL
+    | FOUND_ROWS
+    | LONG_FLAG
+    | CONNECT_WITH_DB
+    | IGNORE_SPACE
+    | PROTOCOL_41
+    | INTERACTIVE
+    | TRANSACTIONS
+    | SECURE_CONNECTION
+    | MULTI_RESULTS
+    | PS_MULTI_RESULTS
+    | PLUGIN_AUTH
+    | CONNECT_ATTRS
+    | PLUGIN_AUTH_LENENC_CLIENT_DATA;
+
+/// What a client's choice of is handed on to the servers that the proxy logs in to for it.
+pub const KEPT_FOR_LINKS: u32 = FOUND_ROWS | LONG_FLAG | IGNORE_SPACE | INTERACTIVE;
+
+/// What the proxy takes up at each server, whoever its client is. CLIENT_CONNECT_WITH_DB is added where there is a database.
+pub const SENT_TO_SERVERS: u32 = MYSQL
+    | PROTOCOL_41
+    | TRANSACTIONS
+    | SECURE_CONNECTION
+    | MULTI_RESULTS
+    | PS_MULTI_RESULTS
+    | PLUGIN_AUTH
+    | PLUGIN_AUTH_LENENC_CLIENT_DATA
+    | SESSION_TRACK;
+
+const _: () = prove!(OFFERED_TO_CLIENTS == 0x003E_A70F);
+
+const _: () = prove!(KEPT_FOR_LINKS == 0x0506);
+
+const _: () = prove!(SENT_TO_SERVERS == 0x00AE_A201);

@@ -1,0 +1,10 @@
+-- what a front sends
+pub mod Refusals
+pub mod Messages
+-- who may log in
+pub mod Accesses
+-- where a front stands, and its next step
+pub mod Fronting
+pub mod Connection
+-- laws
+pub mod Laws
