@@ -1,0 +1,4 @@
+-- a response is read as the login that it was made for
+pub mod LoginLemmas
+-- pieces, and what a link keeps
+pub mod LinkLemmas
