@@ -1,4 +1,5 @@
 -- how a record, and a run, goes on
+pub mod LinkedLemmas
 pub mod StepLemmas
 pub mod EntryLemmas
 -- the law that events determine the run
