@@ -21,6 +21,7 @@ use Rattle.rws_record.proofs.RecordLemmas.{rests_each, each_of, records}
 use Rattle.rws_laws.specs.Answers.{HasAnswered, IsAnswered}
 use Rattle.rws_laws.specs.Laws.{Answered, AnsweredInRuns}
 use Rattle.rws_laws.proofs.Sound.{Sent, goes_with_one}
+use Rattle.rws_record.proofs.WantLemmas.{unstarved}
 use Rattle.rws_laws.proofs.SoundLemmas.{legal_sound}
 use Rattle.rws_laws.proofs.EndedLemmas.{ended}
 use Rattle.rws_laws.proofs.AwaitedLemmas.{rests_awaiting}
@@ -68,7 +69,7 @@ sent_where past command link None p k l s sent e =
 rested : (config : Config) (past : List Item) → IsRecord config past → next config past ≡ None → is_over past ≡ false
     → HasAnswered config past
 rested config past legal e n =
-    let sound = legal_sound legal in
+    let sound = legal_sound legal (unstarved legal (rests_owing_nothing config past e) n) in
     let one = goes_with_one (rests_owing_nothing config past e) n sound.one_link in
     let all = neither (due_send past) (due_arrival (links past) past or due_take config past) (rests_with_nothing_due config past e n) in
     let behind = neither (due_arrival (links past) past) (due_take config past) all.1 in

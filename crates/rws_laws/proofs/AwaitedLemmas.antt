@@ -15,10 +15,10 @@ use Rattle.rws_record.specs.Item.Item.{ClientBytes, LinkBytes, ClientGone, LinkL
 use Rattle.rws_record.specs.Item.Purpose.{Asks}
 use Rattle.rws_record.specs.Item.Put.{Tells, Sends, Drops, Closes}
 use Rattle.rws_record.specs.Item.Tell.{Passes, Owns, Refuses}
-use Rattle.rws_record.specs.Values.{kept_on, Exchange, exchange, asked, with_part, goes_on_by, prepared_handle, form_of, pending, sent_on, reply_number, told, is_over}
+use Rattle.rws_record.specs.Values.{kept_on, Exchange, exchange, asked, with_part, goes_on_by, prepared_handle, form_of, pending, sent_on, reply_number, told, is_over, is_starved}
 use Rattle.rws_record.specs.Rules.{next, owed, after_loss, after_part, after_answer, part_of}
 use Rattle.rws_record.specs.Record.{IsRecord, IsInput}
-use Rattle.rws_record.specs.Record.IsRecord.{begins, steps, hears}
+use Rattle.rws_record.specs.Record.IsRecord.{begins, steps, hears, starves}
 use Rattle.rws_record.proofs.StepLemmas.{Due, Step, of_next, rests_owing_nothing}
 use Rattle.rws_record.proofs.StepLemmas.Due.{replies, garbles, strays, takes, takes_fault}
 use Rattle.rws_record.proofs.StepLemmas.Step.{pays, sends, reads}
@@ -27,6 +27,7 @@ use Rattle.rws_laws.proofs.CameLemmas.{sofar_came}
 use Rattle.rws_laws.proofs.Sound.{Caused, Sound, kept_there, same_some}
 use Rattle.rws_laws.proofs.Sound.Caused.{drops, closes, tells}
 use Rattle.rws_laws.proofs.LinksLemmas.{loss_closes}
+use Rattle.rws_record.proofs.WantLemmas.{input_starved, step_starved, unstarved}
 use Rattle.rws_laws.proofs.SoundLemmas.{legal_sound, clean}
 
 -- what is owed ends the reply, or the session
@@ -159,12 +160,16 @@ step_awaits {config} {past} (pays {put = put} {others = others} o) sound awaitin
 step_awaits {past = past} (sends {link = to} {command = command} o n p s k c) sound awaiting = send_awaits past to command
 step_awaits {config} {past} (reads o n due) sound awaiting = due_awaits config past sound awaiting o n due
 
-legal_awaits : {config : Config} {past : List Item} → IsRecord config past → Awaiting past
-legal_awaits (begins link server) = λ other s. absurd cc
-legal_awaits {config} (steps {past = past} {item = item} legal e) =
-    step_awaits (of_next config past item e) (legal_sound legal) (legal_awaits legal)
-legal_awaits {config} (hears {past = past} {item = item} legal rests n input) =
-    input_awaits config past (legal_sound legal) (legal_awaits legal) (rests_owing_nothing config past rests) n item input
+legal_awaits : {config : Config} {past : List Item} → IsRecord config past → is_starved past ≡ false → Awaiting past
+legal_awaits (begins link server) fed = λ other s. absurd cc
+legal_awaits {config} (steps {past = past} {item = item} legal e) fed =
+    let step = of_next config past item e in
+    let before = sym (step_starved step) ∙ fed in
+    step_awaits step (legal_sound legal before) (legal_awaits legal before)
+legal_awaits {config} (hears {past = past} {item = item} legal rests n input) fed =
+    let before = sym (input_starved past item input) ∙ fed in
+    input_awaits config past (legal_sound legal before) (legal_awaits legal before) (rests_owing_nothing config past rests) n item input
+legal_awaits (starves legal once can) fed = absurd cc
 
 -- where a session rests, the reply to the command that was sent is awaited, and all that came of it was told in the client's
 -- form
@@ -174,8 +179,9 @@ pub rests_awaiting : (config : Config) (past : List Item) → IsRecord config pa
     × (told past ≡ client_reply command.kind prepared_handle (came_on link past))
 rests_awaiting config past legal rests n command link p s =
     let o = rests_owing_nothing config past rests in
-    let sound = legal_sound legal in
-    let its = awaited config past sound (legal_awaits legal) o n link s in
+    let fed = unstarved legal o n in
+    let sound = legal_sound legal fed in
+    let its = awaited config past sound (legal_awaits legal fed) o n link s in
     let waits = sound.waits link its.0 its.1 in
     let same : waits.command ≡ command = same_some waits.command command (sym waits.waits ∙ p) in
     let came = sofar_came link past its.0 its.1 in

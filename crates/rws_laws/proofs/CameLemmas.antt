@@ -7,7 +7,7 @@ use Rattle.rws_reply.specs.declared.kind.Progress.TheVariants.{More, Whole}
 use Rattle.rws_reply.specs.Replies.{Payload}
 use Rattle.rws_reply.specs.ClientForm.{client_reply}
 use Rattle.rws_record.specs.Item.{Item}
-use Rattle.rws_record.specs.Item.Item.{Began, ClientBytes, LinkBytes, ClientGone, LinkLost, Replies, Garbles, Strays, Takes, TakesFault, Puts}
+use Rattle.rws_record.specs.Item.Item.{Began, ClientBytes, LinkBytes, ClientGone, LinkLost, Replies, Garbles, Strays, Takes, TakesFault, Puts, Starves}
 use Rattle.rws_record.specs.Item.Put.{Tells, Sends, Drops, Closes}
 use Rattle.rws_record.specs.Values.{Exchange, exchange, asked, with_part, goes_on_by, prepared_handle}
 use Rattle.rws_laws.specs.Causes.{came_on}
@@ -50,6 +50,7 @@ sofar_came link (Garbles from fault ∷ past) e a = sofar_came link past e a
 sofar_came link (Strays from ∷ past) e a = sofar_came link past e a
 sofar_came link (Takes it number ∷ past) e a = sofar_came link past e a
 sofar_came link (TakesFault fault ∷ past) e a = sofar_came link past e a
+sofar_came link (Starves made ∷ past) e a = sofar_came link past e a
 sofar_came link (Puts (Tells number tell) ∷ past) e a = sofar_came link past e a
 sofar_came link (Puts (Drops gone cause) ∷ past) e a = sofar_came link past e a
 sofar_came link (Puts (Closes reason) ∷ past) e a = sofar_came link past e a

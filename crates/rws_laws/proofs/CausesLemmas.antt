@@ -1,5 +1,5 @@
 -- In a legal record all that was read and given out has its cause.
-use Rattle.std.proofs.Common.{◌≡◌, ℕ, false, List, [], ◌∷◌, refl, sym, ap, subst, ◌∙◌, inl, inr, Some, None}
+use Rattle.std.proofs.Common.{◌≡◌, ℕ, Bool, true, false, List, [], ◌∷◌, refl, sym, ap, subst, ◌∙◌, inl, inr, Some, None}
 use Rattle.std.specs.Prelude.{◌⊎◌}
 use Rattle.rws_config.specs.declared.config.Config.{Config}
 use Rattle.rws_record.specs.declared.command.Command.{Command}
@@ -7,10 +7,10 @@ use Rattle.rws_record.specs.Item.{Item, Put}
 use Rattle.rws_record.specs.Item.Item.{ClientBytes, LinkBytes, ClientGone, LinkLost}
 use Rattle.rws_record.specs.Item.Put.{Sends}
 use Rattle.rws_record.specs.Item.Purpose.{Asks}
-use Rattle.rws_record.specs.Values.{links, kept_on, pending, sent_on, is_over}
+use Rattle.rws_record.specs.Values.{links, kept_on, pending, sent_on, is_over, is_starved}
 use Rattle.rws_record.specs.Rules.{owed, is_some_byte}
 use Rattle.rws_record.specs.Record.{IsRecord, IsInput}
-use Rattle.rws_record.specs.Record.IsRecord.{begins, steps, hears}
+use Rattle.rws_record.specs.Record.IsRecord.{begins, steps, hears, starves}
 use Rattle.rws_record.specs.Run.{record_of}
 use Rattle.rws_record.proofs.StepLemmas.{Due, Step, of_next}
 use Rattle.rws_record.proofs.StepLemmas.Due.{replies, garbles, strays, takes, takes_fault}
@@ -22,6 +22,7 @@ use Rattle.rws_laws.specs.Causes.TookFault.{took_fault}
 use Rattle.rws_laws.specs.Laws.{Causes, CausesInRuns}
 use Rattle.rws_laws.proofs.Sound.{Caused, first_caused, Sound, has_itself, goes_with_one, same_some}
 use Rattle.rws_laws.proofs.SoundLemmas.{legal_sound}
+use Rattle.rws_laws.proofs.WantedLemmas.{ends_caused, legal_ends}
 
 some_byte : (rest : List ℕ) → IsBehind (is_some_byte rest) rest
 some_byte [] = refl
@@ -62,12 +63,19 @@ step_caused {config} {past} (pays o) sound below =
 step_caused (sends o n p s k c) sound below = (send_caused o n p s k sound, below)
 step_caused (reads o n due) sound below = due_read due n below
 
+-- whether memory was wanting before or not
+next_caused : {config : Config} {past : List Item} {item : Item} → IsRecord config past → Step config past item → (starved : Bool)
+    → is_starved past ≡ starved → AreCaused config past → AreCaused config (item ∷ past)
+next_caused legal step false fed below = step_caused step (legal_sound legal fed) below
+next_caused legal step true starved below = ends_caused step (legal_ends legal starved) below
+
 all_caused : {config : Config} {past : List Item} → IsRecord config past → AreCaused config past
 all_caused (begins link server) = (refl, refl, tt)
 all_caused {config} (steps {past = past} {item = item} legal e) =
-    step_caused (of_next config past item e) (legal_sound legal) (all_caused legal)
+    next_caused legal (of_next config past item e) (is_starved past) refl (all_caused legal)
 all_caused {config} (hears {past = past} {item = item} legal rests n input) =
     input_read config past item input n (all_caused legal)
+all_caused (starves legal once can) = (once, can, all_caused legal)
 
 pub causes : Causes
 causes config past legal = all_caused legal

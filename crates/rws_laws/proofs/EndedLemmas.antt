@@ -1,5 +1,5 @@
 -- A session that is over owes its farewells and nothing else, so it has no link left where it rests.
-use Rattle.std.proofs.Common.{◌≡◌, ℕ, true, false, List, [], ◌∷◌, map, refl, sym, ap, ◌∙◌, None}
+use Rattle.std.proofs.Common.{◌≡◌, ℕ, Bool, true, false, List, [], ◌∷◌, map, refl, sym, ap, ◌∙◌, None}
 use Rattle.std.specs.Prelude.{◌==◌}
 use Rattle.std.proofs.lemmas.Bool.{eq-eqb}
 use Rattle.rws_wire.specs.declared.drop_cause.DropCause.TheVariants.{End}
@@ -7,16 +7,18 @@ use Rattle.rws_config.specs.declared.config.Config.{Config}
 use Rattle.rws_record.specs.Item.{Item, Put}
 use Rattle.rws_record.specs.Item.Item.{ClientBytes, LinkBytes, ClientGone, LinkLost, Puts}
 use Rattle.rws_record.specs.Item.Put.{Tells, Sends, Drops, Closes}
-use Rattle.rws_record.specs.Values.{links, is_over}
+use Rattle.rws_record.specs.Values.{links, is_over, is_starved}
 use Rattle.rws_record.specs.Rules.{next, owed, farewells}
 use Rattle.rws_record.specs.Record.{IsRecord, IsInput}
-use Rattle.rws_record.specs.Record.IsRecord.{begins, steps, hears}
+use Rattle.rws_record.specs.Record.IsRecord.{begins, steps, hears, starves}
 use Rattle.rws_record.proofs.StepLemmas.{Due, Step, of_next, rests_owing_nothing}
 use Rattle.rws_record.proofs.StepLemmas.Due.{replies, garbles, strays, takes, takes_fault}
 use Rattle.rws_record.proofs.StepLemmas.Step.{pays, sends, reads}
 use Rattle.rws_laws.proofs.Sound.{Links, Sound}
 use Rattle.rws_laws.proofs.Sound.Links.{has_one, is_over_now, closes_now}
+use Rattle.rws_record.proofs.WantLemmas.{step_starved}
 use Rattle.rws_laws.proofs.SoundLemmas.{legal_sound}
+use Rattle.rws_laws.proofs.WantedLemmas.{ends_without_links, legal_ends}
 
 abbrev Leaves : List Item → Type 0
 Leaves past = is_over past ≡ true → owed past ≡ farewells past
@@ -70,10 +72,14 @@ leaves_step {past = past} (pays {put = put} {others = others} o) sound leaves = 
 leaves_step (sends o n p s k c) sound leaves = λ over. absurd cc
 leaves_step (reads o n due) sound leaves = λ over. let not_over = goes_on_here due n in absurd cc
 
-leaves : {config : Config} {past : List Item} → IsRecord config past → Leaves past
-leaves (begins link server) = λ over. absurd cc
-leaves {config} (steps {past = past} {item = item} legal e) = leaves_step (of_next config past item e) (legal_sound legal) (leaves legal)
-leaves (hears {past = past} {item = item} legal rests n input) = leaves_input past item input n
+leaves : {config : Config} {past : List Item} → IsRecord config past → is_starved past ≡ false → Leaves past
+leaves (begins link server) fed = λ over. absurd cc
+leaves {config} (steps {past = past} {item = item} legal e) fed =
+    let step = of_next config past item e in
+    let before = sym (step_starved step) ∙ fed in
+    leaves_step step (legal_sound legal before) (leaves legal before)
+leaves (hears {past = past} {item = item} legal rests n input) fed = leaves_input past item input n
+leaves (starves legal once can) fed = absurd cc
 
 no_links : (list : List ℕ) → bye list ≡ [] → list ≡ []
 no_links [] e = refl
@@ -82,4 +88,8 @@ no_links (link ∷ others) e = absurd cc
 -- once it rests it has no link
 pub ended : {config : Config} {past : List Item} → IsRecord config past → next config past ≡ None → is_over past ≡ true
     → links past ≡ []
-ended {config} {past} legal e over = no_links (links past) (sym (leaves legal over) ∙ rests_owing_nothing config past e)
+ended {config} {past} legal e over = by_value (is_starved past) refl
+  where
+    by_value : (starved : Bool) → is_starved past ≡ starved → links past ≡ []
+    by_value false fed = no_links (links past) (sym (leaves legal fed over) ∙ rests_owing_nothing config past e)
+    by_value true starved = ends_without_links (legal_ends legal starved) (rests_owing_nothing config past e)

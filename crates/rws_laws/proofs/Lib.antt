@@ -5,6 +5,7 @@ pub mod CameLemmas
 pub mod ReplyLemmas
 pub mod OwedLemmas
 pub mod SoundLemmas
+pub mod WantedLemmas
 -- the law on causes
 pub mod CausesLemmas
 -- the law on what a client has where a reply ended

@@ -38,7 +38,7 @@ use Rattle.rws_laws.proofs.Sound.ToldBy.{none_yet, a_part, all}
 
 -- A session that is over gives up the links that it has
 
-few : {past : List Item} → Links past → (links past ≡ []) ⊎ ((link : ℕ) × (links past ≡ link ∷ []))
+pub few : {past : List Item} → Links past → (links past ≡ []) ⊎ ((link : ℕ) × (links past ≡ link ∷ []))
 few (has_one link e k) = inr (link, e)
 few (is_over_now e over) = inl e
 few (closes_now e reason owes) = inl e

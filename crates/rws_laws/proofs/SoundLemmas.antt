@@ -28,11 +28,12 @@ use Rattle.rws_record.specs.Item.Put.{Tells, Sends, Drops, Closes}
 use Rattle.rws_record.specs.Item.Tell.{Passes, Owns, Refuses}
 use Rattle.rws_record.specs.Requests.{request_of}
 use Rattle.rws_record.specs.Judging.{judged, judged_by, refusal_of}
-use Rattle.rws_record.specs.Values.{held, links, kept_on, Exchange, exchange, asked, with_part, goes_on_by, prepared_handle, link_held, pending, sent_on, reply_number, told, told_from, is_over}
+use Rattle.rws_record.specs.Values.{held, links, kept_on, Exchange, exchange, asked, with_part, goes_on_by, prepared_handle, link_held, pending, sent_on, reply_number, told, told_from, is_over, is_starved}
 use Rattle.rws_record.specs.Rules.{after_loss, after_fault, after_part, after_answer, is_some_byte, part_of, farewells, owed}
 use Rattle.rws_record.specs.Record.{IsRecord, IsInput}
-use Rattle.rws_record.specs.Record.IsRecord.{begins, steps, hears}
+use Rattle.rws_record.specs.Record.IsRecord.{begins, steps, hears, starves}
 use Rattle.rws_record.proofs.StepLemmas.{Due, Step, of_next, rests_owing_nothing}
+use Rattle.rws_record.proofs.WantLemmas.{input_starved, step_starved}
 use Rattle.rws_record.proofs.StepLemmas.Due.{replies, garbles, strays, takes, takes_fault}
 use Rattle.rws_record.proofs.StepLemmas.Step.{pays, sends, reads}
 use Rattle.rws_laws.specs.Causes.{Took, IsCaused}
@@ -417,8 +418,11 @@ begun_sound config link server = record {
   owes = nothing;
 }
 
-pub legal_sound : {config : Config} {past : List Item} → IsRecord config past → Sound config past
-legal_sound {config} (begins link server) = begun_sound config link server
-legal_sound {config} (steps {past = past} {item = item} legal e) = step_sound (of_next config past item e) (legal_sound legal)
-legal_sound {config} (hears {past = past} {item = item} legal rests n input) =
-    input_sound config past (legal_sound legal) (rests_owing_nothing config past rests) n item input
+-- until memory is wanting
+pub legal_sound : {config : Config} {past : List Item} → IsRecord config past → is_starved past ≡ false → Sound config past
+legal_sound {config} (begins link server) fed = begun_sound config link server
+legal_sound {config} (steps {past = past} {item = item} legal e) fed =
+    let step = of_next config past item e in step_sound step (legal_sound legal (sym (step_starved step) ∙ fed))
+legal_sound {config} (hears {past = past} {item = item} legal rests n input) fed =
+    input_sound config past (legal_sound legal (sym (input_starved past item input) ∙ fed)) (rests_owing_nothing config past rests) n item input
+legal_sound (starves legal once can) fed = absurd cc

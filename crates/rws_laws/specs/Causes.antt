@@ -6,7 +6,7 @@ use Rattle.rws_wire.specs.Payloads.{first_payload}
 use Rattle.rws_wire.specs.Payloads.Beginning.{Whole, Faulty}
 use Rattle.rws_wire.specs.declared.fault.WireFault.{WireFault}
 use Rattle.rws_wire.specs.declared.fault.WireFault.TheVariants as faults
-use Rattle.rws_wire.specs.declared.close_reason.CloseReason.TheVariants.{Quit, OutOfOrder, TooLarge, ResultCut, OutcomeUnknown, SessionState}
+use Rattle.rws_wire.specs.declared.close_reason.CloseReason.TheVariants.{Quit, OutOfOrder, TooLarge, ResultCut, OutcomeUnknown, SessionState, Memory}
 use Rattle.rws_wire.specs.declared.drop_cause.DropCause.TheVariants.{BadWire, BadReply, Unasked, End}
 use Rattle.rws_msgs.specs.declared.status.TheConstants.{AUTOCOMMIT}
 use Rattle.rws_reply.specs.declared.kind.Outcome.{Outcome}
@@ -16,17 +16,18 @@ use Rattle.rws_reply.specs.ClientForm.{client_reply}
 use Rattle.rws_config.specs.declared.config.Config.{Config}
 use Rattle.rws_config.specs.declared.limits.TheConstants.{SERVER_PAYLOAD}
 use Rattle.rws_record.specs.declared.command.Command.{Command}
-use Rattle.rws_record.specs.declared.proxy_error.ProxyError.TheVariants.{UnknownCommand, NotSupported, PacketsOutOfOrder, CommandTooLarge}
+use Rattle.rws_record.specs.declared.proxy_error.ProxyError.TheVariants.{UnknownCommand, NotSupported, PacketsOutOfOrder, CommandTooLarge, OutOfMemory}
 use Rattle.rws_record.specs.declared.request.Request.TheVariants as requests
 use Rattle.rws_record.specs.Item.{Item, Put}
-use Rattle.rws_record.specs.Item.Item.{Began, LinkBytes, LinkLost, Replies, Garbles, Strays, Takes, TakesFault, Puts}
+use Rattle.rws_record.specs.Item.Item.{Began, LinkBytes, LinkLost, Replies, Garbles, Strays, Takes, TakesFault, Puts, Starves}
 use Rattle.rws_record.specs.Item.Judged.{Serves}
 use Rattle.rws_record.specs.Item.Put.{Tells, Sends, Drops, Closes}
 use Rattle.rws_record.specs.Item.Tell.{Passes, Owns, Refuses}
 use Rattle.rws_record.specs.Item.Purpose.{Asks}
 use Rattle.rws_record.specs.Requests.{request_of}
 use Rattle.rws_record.specs.Judging.{judged}
-use Rattle.rws_record.specs.Values.{held, links, kept_on, Exchange, exchange, kind_of, prepared_handle, link_held, pending, sent_on, told, told_from, is_over}
+use Rattle.rws_record.specs.Values.{held, links, kept_on, Exchange, exchange, kind_of, prepared_handle, link_held, pending, sent_on, told, told_from, is_over, is_starved}
+use Rattle.rws_record.specs.Record.{CanBeMade}
 
 -- What came of the client
 
@@ -105,6 +106,11 @@ pub record IsPassed (config : Config) (number link : ℕ) (command : Command) (p
   pub in_form : told past ++ payload ∷ [] ≡ client_reply command.kind prepared_handle (came_on link past)
   pub counts : number ≡ number_behind_all (told past) command.number
 
+-- Memory was wanting just now: the session wasn't made, or else its client was told.
+abbrev pub IsStarvedAndTold : List Item → Type 0
+IsStarvedAndTold past =
+    (below : List Item) × ((past ≡ Starves false ∷ below) ⊎ (past ≡ Puts (Tells 1 (Refuses OutOfMemory)) ∷ Starves true ∷ below))
+
 -- Causes
 
 -- Why this may be given out next. What a session never gives out has no cause.
@@ -126,6 +132,9 @@ IsCaused config (Tells number (Refuses PacketsOutOfOrder)) past =
     (want : ℕ) × (got : ℕ) × TookFault config (faults.OutOfOrder want got) past × (number ≡ 1)
 IsCaused config (Tells number (Refuses CommandTooLarge)) past =
     (length : ℕ) × TookFault config (faults.TooLarge length) past × (number ≡ 1)
+-- memory was wanting to a session that goes on
+IsCaused config (Tells number (Refuses OutOfMemory)) past =
+    (below : List Item) × (past ≡ Starves true ∷ below) × (is_over below ≡ false) × (number ≡ 1)
 IsCaused config (Tells number (Refuses _)) past = ⊥
 -- the client's command, on the link that the session is kept on, where it wasn't sent before
 IsCaused config (Sends link (Asks command)) past =
@@ -150,6 +159,7 @@ IsCaused config (Closes OutcomeUnknown) past =
 -- no command was on the lost link, but the connection held what the session has set
 IsCaused config (Closes SessionState) past =
     (link : ℕ) × (lost past ≡ Some link) × (kept_on past ≡ Some link) × (sent_on past ≡ None)
+IsCaused config (Closes Memory) past = IsStarvedAndTold past
 IsCaused config (Closes _) past = ⊥
 IsCaused config (Drops link BadWire) past =
     (fault : WireFault) × (garbled past ≡ Some (link, fault)) × Contains (links past) link
@@ -185,8 +195,9 @@ IsRead config (TakesFault fault) past = TookFault config fault (TakesFault fault
 IsRead config _ past = Unit {0}
 
 -- At each place of the record: what was given out has its cause, and all else came, or was read, while the session wasn't
--- over.
+-- over. Memory is wanting once at most, at any place; a session that isn't made for want of it has only begun.
 abbrev pub AreCaused : Config → List Item → Type 0
 AreCaused config [] = Unit {0}
 AreCaused config (Puts put ∷ past) = IsCaused config put past × AreCaused config past
+AreCaused config (Starves made ∷ past) = (is_starved past ≡ false) × CanBeMade made past × AreCaused config past
 AreCaused config (item ∷ past) = (is_over past ≡ false) × IsRead config item past × AreCaused config past

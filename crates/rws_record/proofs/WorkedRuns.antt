@@ -438,7 +438,7 @@ want_in_a_reply : Does
     on_link 1 (codes "010000010117000002036465660000000161000c2d000a000000fd0000000000") ∷ End ∷ [])
     (to_link 1 (codes "020000000378") ∷ to_client 1 (codes "0100000101") ∷
     to_client 1 (codes "16000001ff0d042348593030316f7574206f66206d656d6f7279") ∷ Close 1 Memory ∷ Drop 1 AtEnd ∷ [])
-unfolding lenenc lenenc_bytes full_packet spelling number_behind payload_behind first_payload eof_at err_at err_code err_bytes bytes_at number_at fixed_at lenenc_at text_at text_bytes ended state_at texts_at ok_at ok_status texts_bytes ok_bytes prepare_ok_at eof_status prepared_counts column_count is_definition is_row progress role client_ok client_form
+unfolding lenenc lenenc_bytes full_packet spelling number_behind payload_behind first_payload eof_at err_at err_code err_bytes bytes_at number_at fixed_at lenenc_at text_at text_bytes ended state_at texts_at ok_at ok_status texts_bytes ok_bytes prepare_ok_at eof_status prepared_counts column_count is_definition is_row progress role client_form
 want_in_a_reply =
     wants_in 3 1 true (Begin 1 0 ∷ from_client 1 (codes "020000000378") ∷ [])
     (on_link 1 (codes "010000010117000002036465660000000161000c2d000a000000fd0000000000")) (End ∷ []) _ refl refl refl tt refl refl

@@ -22,7 +22,7 @@ use Rattle.rws_trace.specs.declared.side.Side.{Side}
 use Rattle.rws_trace.proofs.Texts.{text_of-append}
 use Rattle.rws_worker.specs.Standing.{interactions_of}
 use Rattle.rws_worker.specs.Working.{IsResting, IsFront, Works}
-use Rattle.rws_worker.specs.Working.Works.{ended, unread as untold, untaken, too_many as full, starved, starved_reading, starved_acting}
+use Rattle.rws_worker.specs.Working.Works.{ended, unread as untold, untaken, too_many as full, starved_reading, starved_acting}
 use Rattle.rws_worker.specs.declared.work.WorkEnd.{WorkEnd}
 use Rattle.rws_worker.proofs.InteractionLemmas.{IsCutAt, actions_taken-run, cut_at}
 use Rattle.rws_top.specs.Trace.{AnswersTrace, HasHeardAll, IsBegun, IsCut, IsScript, settings_of}
@@ -184,19 +184,6 @@ module _ (config : Config) (before taken : Option (List ℕ)) (input output : �
         all_put run (subst (λ (actions : List Action). Appends taken new.taken (text_of actions))
         (actions_taken-append (interactions_of run) (Gave event ∷ []) ∙ append-nil (actions_taken (interactions_of run))) g.printed)
 
-    unhandled : Answers 9
-    unhandled = record {
-      script = script_for.script;
-      printed = text_of (done_in run);
-      of_input = script_for.of_input;
-      took = all_put_before;
-      by_status = out_of_memory refl (record {
-        whole = text_of (done_in run);
-        of_script = inr (begins run resting script_for);
-        front = record { rest = []; parted = sym (append-nil (text_of (done_in run))) };
-      });
-    }
-
     one_too_many : length (events_of run) + 1 ≡ 2 ^ 32 → Answers 10
     one_too_many last = record {
       script = script_for.script;
@@ -219,7 +206,6 @@ module _ (config : Config) (before taken : Option (List ℕ)) (input output : �
   ends_so (untaken done front d) =
       subst (λ (failed : Option Side). Ending (failing_end failed)) (sym d.stands.0) (unput done (cut_by done front) d.stands.2 d.stands.1)
   ends_so (full run event resting last d) = one_too_many run event resting d last
-  ends_so (starved run event resting d) = unhandled run event resting d
   ends_so (starved_reading run resting d) = cut_for_memory (interactions_of run) (cut_whole run resting) d.stands
   ends_so (starved_acting done front d) = cut_for_memory done (cut_by done front) d.stands
 

@@ -10,11 +10,12 @@ use Rattle.rws_board.specs.declared.interaction.Interaction.{Interaction}
 use Rattle.rws_board.specs.declared.interaction.Interaction.TheVariants.{Gave, Took}
 use Rattle.rws_config.specs.declared.config.Config.{Config}
 use Rattle.rws_record.specs.Item.{Item}
+use Rattle.rws_record.specs.Item.Item.{Starves}
 use Rattle.rws_record.specs.Outputs.{outs_of}
 use Rattle.rws_record.specs.Rules.{next, ◌or◌}
 use Rattle.rws_record.specs.Run.{Entry, IsRun, next_entry, record_of, step_of, hearer, hearing, untold, events_of, done_in}
 use Rattle.rws_record.specs.Run.Entry.{Came, Heard, Did}
-use Rattle.rws_record.specs.Run.IsRun.{starts, came, goes_on}
+use Rattle.rws_record.specs.Run.IsRun.{starts, came, goes_on, starves}
 use Rattle.rws_worker.specs.Standing.{interactions_of}
 
 -- actions alone give no event, and are taken as they are
@@ -208,6 +209,8 @@ module _ (config : Config) (done : List Interaction) where
       let told_before : IsTold run = sym (no_more session item run) ∙ told in
       by_actions run outs rest told_before (λ between is. cut legal told_before between is)
       (split (interactions_of run) (map Took outs) done rest parted)
+  cut (starves {run} {session} {made} legal h once can) told rest parted =
+      cut legal (sym (no_more session (Starves made) run) ∙ told) rest (sym (append-nil (interactions_of run)) ∙ parted)
 
   -- what was done is a front of what passes in a run over just the events that were given
   pub cut_at : (run : List Entry) (rest : List Interaction) → IsRun config run → next_entry config run ≡ None

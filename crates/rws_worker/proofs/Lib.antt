@@ -3,7 +3,10 @@ pub mod MapLemmas
 -- what a run holds of each session, and how a session's steps become the run's
 pub mod RecordLemmas
 pub mod StepLemmas
+pub mod WantLemmas
 pub mod TurnLemmas
+-- what is ahead of a worker
+pub mod StepsLemmas
 -- what the worker stands for behind an event
 pub mod EventLemmas
 pub mod TellLemmas

@@ -1,14 +1,14 @@
 -- What a run holds of each session and of each link, one entry further.
-use Rattle.std.proofs.Common.{◌≡◌, ◌==◌, ℕ, ◌+◌, ◌<◌, Bool, true, false, not, List, [], ◌∷◌, refl, ◌∙◌, Some, None, arith, if◌then◌else◌}
+use Rattle.std.proofs.Common.{◌≡◌, ◌==◌, ℕ, ◌<◌, Bool, true, false, not, List, [], ◌∷◌, refl, ◌∙◌, Some, None, arith, if◌then◌else◌}
 use Rattle.std.proofs.lemmas.Bool.{ne_eqb, eq-eqb}
 use Rattle.rws_config.specs.declared.config.Config.{Config}
 use Rattle.rws_record.specs.Item.{Item}
-use Rattle.rws_record.specs.Item.Item.{Began, ClientBytes, LinkBytes, ClientGone, LinkLost, Replies, Garbles, Strays, Takes, TakesFault, Puts}
+use Rattle.rws_record.specs.Item.Item.{Began, ClientBytes, LinkBytes, ClientGone, LinkLost, Comes, Takes, TakesFault, Puts, Starves}
 use Rattle.rws_record.specs.Item.Put.{Tells, Sends, Drops, Closes}
 use Rattle.rws_record.specs.Values.{opens, links, contains, without}
 use Rattle.rws_record.specs.Run.{Entry, IsRun, record_of, owner, last_link}
-use Rattle.rws_record.specs.Run.Entry.{Came, Heard, Did}
-use Rattle.rws_record.specs.Run.IsRun.{starts, came, goes_on}
+use Rattle.rws_record.specs.Run.Entry.{Heard, Did}
+use Rattle.rws_record.specs.Run.IsRun.{starts, came, goes_on, starves}
 use Rattle.rws_record.proofs.StepLemmas.{of_next, step_opens_none, input_opens_none}
 use Rattle.rws_record.proofs.EntryLemmas.{Next, of_next_entry}
 use Rattle.rws_record.proofs.EntryLemmas.Next.{did, heard}
@@ -91,11 +91,10 @@ still_has (ClientBytes bytes) past link none e = e
 still_has (LinkBytes from bytes) past link none e = e
 still_has ClientGone past link none e = e
 still_has (LinkLost lost) past link none e = without_has lost link (links past) e
-still_has (Replies from part) past link none e = e
-still_has (Garbles from fault) past link none e = e
-still_has (Strays from) past link none e = e
+still_has (Comes from said) past link none e = e
 still_has (Takes judged number) past link none e = e
 still_has (TakesFault fault) past link none e = e
+still_has (Starves made) past link none e = e
 still_has (Puts (Tells number tell)) past link none e = e
 still_has (Puts (Sends to purpose)) past link none e = e
 still_has (Puts (Drops given cause)) past link none e = without_has given link (links past) e
@@ -127,3 +126,4 @@ unopened starts link high = refl
 unopened (came legal quiet) link high = unopened legal link high
 unopened {config} (goes_on {run = run} {entry = entry} legal e) link high =
     next_unopened legal (of_next_entry config run entry e) (unopened legal) link high
+unopened (starves legal h once can) link high = unopened legal link high

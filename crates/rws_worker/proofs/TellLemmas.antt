@@ -1,21 +1,12 @@
 -- What is known where a session is looked up and told an input.
-use Rattle.std.proofs.Common.{◌≡◌, ℕ, Bool, true, false, List, [], ◌++◌, refl, sym, ap, ◌∙◌, Option, Some, None, ◌&&◌, if◌then◌else◌}
-use Rattle.rws_board.specs.declared.action.Action.{Action}
+use Rattle.std.proofs.Common.{◌≡◌, ℕ, Bool, true, false, List, [], refl, ap, Option, Some, None, ◌&&◌, if◌then◌else◌}
 use Rattle.rws_record.specs.Item.{Item}
 use Rattle.rws_record.specs.Values.{links, contains, is_over}
-use Rattle.rws_record.specs.Run.{Entry, record_of, is_live, owner}
-use Rattle.rws_session.specs.Kept.{Kept}
-use Rattle.rws_session.specs.Turning.{on_link, heard, heard_open}
+use Rattle.rws_record.specs.Run.{Entry, record_of, is_live}
+use Rattle.rws_session.specs.Turning.{on_link, heard}
 use Rattle.rws_session.specs.declared.input.SessionInput.{SessionInput}
 use Rattle.rws_session.specs.declared.input.SessionInput.TheVariants as inputs
-use Rattle.rws_worker.specs.Standing.{IsOn, told_item, told_with, told_through}
-
--- all that a session gave out is fetched into a list that was empty
-pub fetched_whole : (before after : Kept) (old new : List Action) → old ≡ [] → new ≡ old ++ before.outs
-    → after ≡ record before { outs = [] } → record after { outs = new } ≡ before
-fetched_whole before after old new none all left =
-    ap (λ (k : Kept). record k { outs = new }) left
-    ∙ ap (λ (outs : List Action). record before { outs = outs }) (all ∙ ap (λ (outs : List Action). outs ++ before.outs) none)
+use Rattle.rws_worker.specs.Standing.{IsOn, told_item, told_through}
 
 unheard_by : (over : Bool) (has : Bool) (item : Item) → has ≡ false → (if over then None else on_link has item) ≡ None
 unheard_by true has item none = refl

@@ -1,5 +1,5 @@
 -- What a board did in a worker's work.
-use Rattle.std.proofs.Common.{◌≡◌, ℕ, suc, ◌+◌, ◌^◌, ◌<◌, true, false, List, [], ◌∷◌, ◌++◌, map, length, refl, sym, ap, subst, ◌∙◌, append_assoc, arith}
+use Rattle.std.proofs.Common.{◌≡◌, ℕ, ◌+◌, ◌^◌, ◌<◌, ◌≤◌, true, false, List, [], ◌∷◌, ◌++◌, map, length, refl, sym, ap, subst, ◌∙◌, append_assoc, arith}
 use Rattle.std.proofs.lemmas.List.{append-nil, length-append}
 use Rattle.rws_board.proofs.JoinLemmas.{events_given-append}
 use Rattle.rws_board.specs.Boards.{Standing, given, standing_after, events_given}
@@ -12,7 +12,8 @@ use Rattle.rws_board.specs.declared.event.Event.TheVariants as events
 use Rattle.rws_board.specs.declared.interaction.Interaction.{Interaction}
 use Rattle.rws_board.specs.declared.interaction.Interaction.TheVariants.{Gave, Took}
 use Rattle.rws_config.specs.declared.config.Config.{Config}
-use Rattle.rws_record.specs.Run.{Entry, IsRun, next_entry, events_of}
+use Rattle.rws_record.specs.Run.{events_of}
+use Rattle.rws_worker.specs.Stepping.{IsIdle, actions_ahead}
 use Rattle.rws_worker.specs.Standing.{interactions_of, WorkerStands, Advances}
 use Rattle.rws_worker.specs.Working.{IsResting, IsFront, IsUnderway, TakesAll, TakesSome, Works, is_end}
 use Rattle.rws_worker.specs.Working.Works.{untaken, starved_acting}
@@ -31,23 +32,23 @@ none_taken did before d = subst (λ (xs : List Interaction). did xs Going) (sym 
 -- one of them isn't
 pub some_taken : {did : List Interaction → Standing → Type 0} {fault : BoardFault} (so_far : List Interaction) (old : Worker)
     (done : List Interaction) (before after : List Action) (action : Action)
-    → map Took old.outs.items ≡ done ++ map Took before → before ≡ action ∷ after
+    → map Took (actions_ahead old) ≡ done ++ map Took before → before ≡ action ∷ after
     → did ((so_far ++ done) ++ Took action ∷ []) (ActFailed fault) → TakesSome did so_far old fault
 some_taken {did} {fault} so_far old done before after action parted first tried = record {
   done = done ++ Took action ∷ [];
   rest = map Took after;
-  parted = one_taken old.outs.items before after done action parted first;
+  parted = one_taken (actions_ahead old) before after done action parted first;
   some_done = subst (λ (xs : List Interaction). did xs (ActFailed fault)) (append_assoc so_far done (Took action ∷ [])) tried;
 }
 
 -- all are
 pub all_taken : {did : List Interaction → Standing → Type 0} (so_far : List Interaction) (old new : Worker)
-    (done : List Interaction) (left : List Action) → map Took old.outs.items ≡ done ++ map Took left → left ≡ []
-    → new.outs.items ≡ [] → did (so_far ++ done) Going → TakesAll did so_far old new
-all_taken {did} so_far old new done left parted none fetched d = record {
+    (done : List Interaction) (left : List Action) → map Took (actions_ahead old) ≡ done ++ map Took left → left ≡ []
+    → IsIdle new → did (so_far ++ done) Going → TakesAll did so_far old new
+all_taken {did} so_far old new done left parted none idle d = record {
   all_done = subst (λ (xs : List Interaction). did (so_far ++ xs) Going)
       (sym (parted ∙ ap (λ (xs : List Action). done ++ map Took xs) none ∙ append-nil done)) d;
-  fetched = fetched;
+  idle = idle;
 }
 
 -- An event
@@ -95,16 +96,16 @@ no_events_taken (action ∷ actions) = no_events_taken actions
 module _ {config : Config} {did : List Interaction → Standing → Type 0} {worker : Worker} {count : ℕ}
     (u : IsUnderway config did worker count) (event : Event) (no_end : is_end event ≡ false) (given_one : Worker)
     (a : Advances config u.run event given_one) (more : count + 1 < 2 ^ 32) where
-  done_is : interactions_of a.now ≡ (interactions_of u.run ++ Gave event ∷ []) ++ map Took given_one.outs.items
+  done_is : interactions_of a.now ≡ (interactions_of u.run ++ Gave event ∷ []) ++ map Took (actions_ahead given_one)
   done_is =
-      a.did ∙ ap (λ (xs : List Interaction). interactions_of u.run ++ (xs ++ map Took given_one.outs.items)) (is_given event no_end)
-      ∙ sym (append_assoc (interactions_of u.run) (Gave event ∷ []) (map Took given_one.outs.items))
+      a.did ∙ ap (λ (xs : List Interaction). interactions_of u.run ++ (xs ++ map Took (actions_ahead given_one))) (is_given event no_end)
+      ∙ sym (append_assoc (interactions_of u.run) (Gave event ∷ []) (map Took (actions_ahead given_one)))
 
   told_is : events_given (interactions_of a.now) ≡ events_of a.now
   told_is =
       ap events_given done_is
-      ∙ events_given-append (interactions_of u.run ++ Gave event ∷ []) (map Took given_one.outs.items)
-      ∙ ap (λ (xs : List Event). events_given (interactions_of u.run ++ Gave event ∷ []) ++ xs) (no_events_taken given_one.outs.items)
+      ∙ events_given-append (interactions_of u.run ++ Gave event ∷ []) (map Took (actions_ahead given_one))
+      ∙ ap (λ (xs : List Event). events_given (interactions_of u.run ++ Gave event ∷ []) ++ xs) (no_events_taken (actions_ahead given_one))
       ∙ append-nil (events_given (interactions_of u.run ++ Gave event ∷ []))
       ∙ events_given-append (interactions_of u.run) (Gave event ∷ [])
       ∙ ap (λ (xs : List Event). xs ++ event ∷ []) u.told ∙ sym a.heard
@@ -122,13 +123,15 @@ module _ {config : Config} {did : List Interaction → Standing → Type 0} {wor
 
   -- all that came of it is done
   pub underway_on : {now_did : List Interaction → Standing → Type 0} (new : Worker) → WorkerStands config new a.now
+      → new.last_link ≤ count + 1
       → TakesAll now_did (interactions_of u.run ++ Gave event ∷ []) given_one new → IsUnderway config now_did new (count + 1)
-  underway_on {now_did} new stands all = record {
+  underway_on {now_did} new stands opened all = record {
     run = a.now;
     stands = stands;
-    fetched = all.fetched;
+    idle = all.idle;
     counted = sym counted_is;
     few = more;
+    opened = opened;
     told = told_is;
     done_so_far = subst (λ (xs : List Interaction). now_did xs Going) (sym done_is) all.all_done;
   }

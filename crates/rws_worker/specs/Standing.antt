@@ -2,10 +2,9 @@
 use Rattle.std.specs.Prelude.{◌≡◌, ℕ, true, false, ◌&&◌, List, [], ◌∷◌, ◌++◌, map, Option, Some, None, if◌then◌else◌}
 use Rattle.std.specs.BTreeMap.{get}
 use Rattle.std.specs.Ordering.{nat_cmp}
-use Rattle.rws_board.specs.declared.action.Action.{Action}
 use Rattle.rws_board.specs.declared.event.Event.{Event}
 use Rattle.rws_board.specs.declared.interaction.Interaction.{Interaction}
-use Rattle.rws_board.specs.declared.interaction.Interaction.TheVariants.{Gave, Took}
+use Rattle.rws_board.specs.declared.interaction.Interaction.TheVariants.{Took}
 use Rattle.rws_board.specs.Boards.{given}
 use Rattle.rws_config.specs.declared.config.Config.{Config}
 use Rattle.rws_record.specs.Item.{Item}
@@ -17,6 +16,7 @@ use Rattle.rws_session.specs.Kept.{Kept, Stands}
 use Rattle.rws_session.specs.Turning.{heard}
 use Rattle.rws_session.specs.declared.input.SessionInput.{SessionInput}
 use Rattle.rws_worker.specs.declared.worker.Worker.{Worker}
+use Rattle.rws_worker.specs.Stepping.{actions_ahead, is_going}
 
 -- what passes between a worker and its board in a run, oldest first
 abbrev pub interactions_of : List Entry → List Interaction
@@ -25,23 +25,25 @@ interactions_of (Came event ∷ run) = interactions_of run ++ given event
 interactions_of (Heard session item ∷ run) = interactions_of run
 interactions_of (Did session item ∷ run) = interactions_of run ++ map Took (outs_of session item (record_of session run))
 
--- a session that goes on: what is kept of it stands for its record, and all that it gave out is fetched
+-- a session that goes on: what is kept of it stands for its record
 pub record IsSeated (config : Config) (number : ℕ) (session : Kept) (run : List Entry) : Type 0 where
   pub live : is_live (record_of number run) ≡ true
   pub stands : Stands config session (record_of number run)
   pub numbered : session.number ≡ number
-  pub fetched : session.outs ≡ []
 
 -- a session is kept where it goes on
 abbrev pub SeatStands : Config → ℕ → Option Kept → List Entry → Type 0
 SeatStands config number (Some session) run = IsSeated config number session run
 SeatStands config number None run = is_live (record_of number run) ≡ false
 
--- between two events the worker stands for a run that rests
+-- The worker stands for a run that rests. What came of its last event may still have to be fetched.
 pub record WorkerStands (config : Config) (worker : Worker) (run : List Entry) : Type 0 where
   pub legal : IsRun config run
   pub rests : next_entry config run ≡ None
   pub seats : (session : ℕ) → SeatStands config session (get nat_cmp worker.sessions session) run
+  -- all that a session gave out is fetched, but of the one whose outputs came of the last event
+  pub fetched : (session : ℕ) (kept : Kept) → get nat_cmp worker.sessions session ≡ Some kept → is_going session worker.ahead ≡ false
+      → kept.outs ≡ []
   -- a link's owner is the session for which it was opened, and is there as long as that has the link
   pub owned : (link session : ℕ) → get nat_cmp worker.owners link ≡ Some session → owner link run ≡ Some session
   pub owns : (link session : ℕ) → owner link run ≡ Some session
@@ -53,12 +55,12 @@ pub record WorkerStands (config : Config) (worker : Worker) (run : List Entry) :
 abbrev pub HasRun : Config → Worker → Type 0
 HasRun config worker = (run : List Entry) × WorkerStands config worker run
 
--- the run went on over one more event, and rests again; what came of the event is to be fetched
+-- the run went on over one more event, and rests again; what came of the event is ahead
 pub record Advances (config : Config) (run : List Entry) (event : Event) (worker : Worker) : Type 0 where
   pub now : List Entry
   pub stands : WorkerStands config worker now
   pub heard : events_of now ≡ events_of run ++ event ∷ []
-  pub did : interactions_of now ≡ interactions_of run ++ (given event ++ map Took worker.outs.items)
+  pub did : interactions_of now ≡ interactions_of run ++ (given event ++ map Took (actions_ahead worker))
 
 -- what an input tells a session that goes on
 abbrev pub told_item : ℕ → Option Item → List (ℕ × Item)

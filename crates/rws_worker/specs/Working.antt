@@ -1,5 +1,5 @@
 -- What a worker over a board answers, and what the board did by then.
-use Rattle.std.specs.Prelude.{◌≡◌, ℕ, Bool, true, false, ◌+◌, ◌^◌, ◌<◌, List, [], ◌∷◌, ◌++◌, length, map, None}
+use Rattle.std.specs.Prelude.{◌≡◌, ℕ, Bool, true, false, ◌+◌, ◌^◌, ◌<◌, ◌≤◌, List, [], ◌∷◌, ◌++◌, length, map, None}
 use Rattle.rws_board.specs.Boards.{Standing, events_given}
 use Rattle.rws_board.specs.Boards.Standing.{Going, Ended as AtEnd, NextFailed, ActFailed}
 use Rattle.rws_board.specs.declared.board_fault.BoardFault.{BoardFault}
@@ -10,6 +10,7 @@ use Rattle.rws_board.specs.declared.interaction.Interaction.{Interaction}
 use Rattle.rws_board.specs.declared.interaction.Interaction.TheVariants.{Gave, Took}
 use Rattle.rws_config.specs.declared.config.Config.{Config}
 use Rattle.rws_record.specs.Run.{Entry, IsRun, next_entry, events_of}
+use Rattle.rws_worker.specs.Stepping.{IsIdle, actions_ahead}
 use Rattle.rws_worker.specs.Standing.{interactions_of, WorkerStands}
 use Rattle.rws_worker.specs.declared.work.WorkEnd.{WorkEnd}
 use Rattle.rws_worker.specs.declared.work.WorkEnd.TheVariants as ends
@@ -44,9 +45,7 @@ pub data Works (config : Config) (did : List Interaction → Standing → Type 0
   -- the event of number 2^32 came, and isn't handled
   too_many : (run : List Entry) (event : Event) → IsResting config run → length (events_of run) + 1 ≡ 2 ^ 32
       → did (interactions_of run ++ Gave event ∷ []) Going → Works config did ends.TooMany
-  -- memory was wanting: for an event that was given, or in the board
-  starved : (run : List Entry) (event : Event) → IsResting config run → did (interactions_of run ++ Gave event ∷ []) Going
-      → Works config did ends.OutOfMemory
+  -- memory was wanting in the board
   starved_reading : (run : List Entry) → IsResting config run → did (interactions_of run) (NextFailed faults.OutOfMemory)
       → Works config did ends.OutOfMemory
   starved_acting : (done : List Interaction) → IsFront config done → did done (ActFailed faults.OutOfMemory)
@@ -56,22 +55,24 @@ pub data Works (config : Config) (did : List Interaction → Standing → Type 0
 pub record IsUnderway (config : Config) (did : List Interaction → Standing → Type 0) (worker : Worker) (events : ℕ) : Type 0 where
   pub run : List Entry
   pub stands : WorkerStands config worker run
-  pub fetched : worker.outs.items ≡ []
+  pub idle : IsIdle worker
   pub counted : events ≡ length (events_of run)
   pub few : events < 2 ^ 32
+  -- an event opens one link at most
+  pub opened : worker.last_link ≤ events
   pub told : events_given (interactions_of run) ≡ events_of run
   pub done_so_far : did (interactions_of run) Going
 
--- all that was to be fetched of a worker was done behind what was done before
+-- all that was ahead of a worker was done behind what was done before
 pub record TakesAll (did : List Interaction → Standing → Type 0) (before : List Interaction) (old new : Worker) : Type 0 where
-  pub all_done : did (before ++ map Took old.outs.items) Going
-  pub fetched : new.outs.items ≡ []
+  pub all_done : did (before ++ map Took (actions_ahead old)) Going
+  pub idle : IsIdle new
 
 -- a front of it was done, or tried
 pub record TakesSome (did : List Interaction → Standing → Type 0) (before : List Interaction) (old : Worker) (fault : BoardFault) : Type 0 where
   pub done : List Interaction
   pub rest : List Interaction
-  pub parted : map Took old.outs.items ≡ done ++ rest
+  pub parted : map Took (actions_ahead old) ≡ done ++ rest
   pub some_done : did (before ++ done) (ActFailed fault)
 
 -- it is the end

@@ -4,6 +4,7 @@
 //! `work_here` runs one over a board until the board's end.
 #![tactic(auto)]
 
+mod ahead;
 mod step;
 mod work;
 mod worker;

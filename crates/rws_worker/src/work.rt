@@ -1,18 +1,19 @@
 //! A worker over a board.
-ghost use Rattle.std.specs.Prelude.{◌≡◌, ◌≤◌, ◌+◌, List, Some, IsErrOf, MatchOption, MatchResult};
+ghost use Rattle.std.specs.Prelude.{◌≡◌, ◌≤◌, ◌+◌, ◌∷◌, List, [], Some, IsErrOf, MatchOption, MatchResult};
 ghost use Rattle.rws_board.specs.Boards.Standing.{Going};
 ghost use Rattle.rws_board.specs.Faults.{Rises};
 ghost use Rattle.rws_board.specs.declared.interaction.Interaction.{Interaction};
 ghost use Rattle.rws_config.specs.declared.config.Config.{Config};
 ghost use Rattle.rws_record.specs.Run.{Entry};
 ghost use Rattle.rws_worker.specs.Standing.{WorkerStands};
+ghost use Rattle.rws_worker.specs.Stepping.{IsIdle, actions_ahead};
 ghost use Rattle.rws_worker.specs.Working.{IsUnderway, TakesAll, TakesSome, Works, is_end};
 ghost use Rattle.rws_worker.specs.declared.work.WorkEnd.TheVariants.{BoardFailed};
 
 use crate::{Step, Worker};
-use rws_board::{Board, BoardFault, Event};
+use rws_board::{Action, Board, BoardFault, Event};
 use rws_config::Config;
-use std::alloc::{AllocError, Global};
+use std::alloc::Global;
 
 /// How a worker's work ended.
 #[derive(Clone, Copy, Debug, PartialEq, Eq)]
@@ -23,7 +24,7 @@ pub enum WorkEnd {
     BoardFailed,
     /// The event of number 4,294,967,296 came, the end not counted. It isn't handled.
     TooMany,
-    /// There was no memory for an event, or in the board.
+    /// There was no memory in the board.
     OutOfMemory,
 }
 
@@ -70,10 +71,7 @@ fn handle_next<B: Board>(
         return Some(WorkEnd::TooMany);
     }
     *events += 1;
-    match worker.give(event, config) {
-        Ok(()) => {}
-        Err(AllocError) => return Some(WorkEnd::OutOfMemory),
-    }
+    worker.give(event, config);
     match act_all(worker, board) {
         Ok(()) => None,
         Err(BoardFault::Failed) => Some(WorkEnd::BoardFailed),
@@ -102,14 +100,38 @@ fn act_all<B: Board>(worker: &mut Worker, board: &mut B) -> Result<(), BoardFaul
         (λ fault. TakesSome (B.did start board.new) before worker.old fault) }
     ensures stands { (config : Config) (run : List Entry) → WorkerStands config worker.old run
         → WorkerStands config worker.new run }
+    ensures links { worker.new.last_link ≡ worker.old.last_link }
     ensures counts { B.faults board.old ≤ B.faults board.new }
     ensures failed { IsErrOf result BoardFault.Failed → Rises (B.faults board.old) (B.faults board.new) }
 {
-    while let Step::Act(action) = worker.step() {
+    while let Some(action) = next_action(worker) {
         match board.act(action) {
             Ok(()) => {}
             Err(fault) => return Err(fault),
         }
     }
     Ok(())
+}
+
+/// The next thing to be done of what came of the last event. A farewell is sent, where there is one.
+fn next_action(worker: &mut Worker) -> Option<Action>
+    ensures acts { MatchOption result ((actions_ahead worker.old ≡ []) × IsIdle worker.new)
+        (λ action. actions_ahead worker.old ≡ action ∷ actions_ahead worker.new) }
+    ensures stands { (config : Config) (run : List Entry) → WorkerStands config worker.old run
+        → WorkerStands config worker.new run }
+    ensures links { worker.new.last_link ≡ worker.old.last_link }
+{
+    match worker.step() {
+        Step::Idle => None,
+        Step::Act(action) => Some(action),
+        Step::Broken { session, farewell } => {
+            if farewell.is_empty() {
+                return next_action(worker);
+            }
+            Some(Action::ToClient {
+                session,
+                bytes: farewell,
+            })
+        }
+    }
 }

@@ -2,20 +2,23 @@
 //!
 //! Between two events each session that isn't over rests and has nothing to be fetched; a session that is over is
 //! forgotten. An owner may be there for a link that its session has given up since: then the session hears nothing.
-ghost use Rattle.std.specs.Prelude.{◌≡◌, List, [], OnOk};
+ghost use Rattle.std.specs.Prelude.{◌≡◌, ◌∷◌, ◌≤◌, ◌<◌, ◌+◌, ◌-◌, ◌^◌, ◌==◌, List, [], MatchOption};
+ghost use Rattle.rws_board.specs.declared.action.Action.TheVariants as actions;
 ghost use Rattle.rws_config.specs.declared.config.Config.{Config};
 ghost use Rattle.rws_record.specs.Run.{Entry};
 ghost use Rattle.rws_worker.specs.Standing.{Advances, HasRun, WorkerStands};
-ghost use Rattle.rws_worker.specs.Stepping.{Steps};
+ghost use Rattle.rws_worker.specs.Stepping.{IsIdle, Steps, endings, outs_ahead};
 
+mod stepping;
 mod telling;
 
 use crate::Step;
+use crate::ahead::Ahead;
 use rws_board::{Action, Event};
 use rws_config::Config;
 use rws_session::{Session, SessionInput};
-use std::alloc::{AllocError, Global};
-use std::collections::{BTreeMap, VecDeque};
+use std::alloc::Global;
+use std::collections::BTreeMap;
 
 /// The sessions of one worker.
 #[derive(Drop)]
@@ -27,15 +30,20 @@ pub struct Worker {
     last_link: u64,
     /// The greatest number with which a session was to begin, or 0.
     greatest: u32,
-    /// What came of the last event and isn't fetched yet.
-    outs: VecDeque<Action>,
+    /// Where what came of the last event is fetched from.
+    ahead: Ahead,
+    /// A session to which memory was wanting, until that is told,
+    broken: Option<u32>,
+    /// and until it is closed.
+    closing: Option<u32>,
 }
 
 impl Worker {
     /// A worker without sessions, which takes no memory.
     pub fn new(alloc: Global) -> Worker
         ensures stands { (config : Config) → WorkerStands config result [] }
-        ensures nothing { result.outs.items ≡ [] }
+        ensures idle { IsIdle result }
+        ensures links { result.last_link ≡ 0 }
     {
         Worker {
             alloc,
@@ -43,17 +51,27 @@ impl Worker {
             owners: BTreeMap::new(alloc),
             last_link: 0,
             greatest: 0,
-            outs: VecDeque::new(alloc),
+            ahead: Ahead::Nothing,
+            broken: None,
+            closing: None,
         }
     }
 
-    /// Gives the worker an event, once all that came of the events before is fetched. After want of memory the worker is of
-    /// no more use.
-    pub fn give(&mut self, event: Event, config: &Config) -> Result<(), AllocError>
-        requires fetched { self.old.outs.items ≡ [] }
+    /// No link can be opened any more, for there is no further number.
+    pub fn is_spent(&self) -> bool
+        ensures { result ≡ (self.now.last_link == 2 ^ 64 - 1) }
+    {
+        self.last_link == u64::MAX
+    }
+
+    /// Gives the worker an event, once a step was idle. Where memory is wanting for it the steps say so; it costs the session
+    /// that the event is for.
+    pub fn give(&mut self, event: Event, config: &Config)
+        requires idle { IsIdle self.old }
         requires run { HasRun config.now self.old }
-        ensures { (run : List Entry) → WorkerStands config.now self.old run
-            → OnOk result (Advances config.now run event self.new) }
+        requires unspent { self.old.last_link < 2 ^ 64 - 1 }
+        ensures advances { (run : List Entry) → WorkerStands config.now self.old run → Advances config.now run event self.new }
+        ensures links { self.new.last_link ≤ self.old.last_link + 1 }
     {
         match event {
             Event::Begin { session, server } => self.begin(session, server, config),
@@ -69,33 +87,25 @@ impl Worker {
                 config,
             ),
             Event::LinkGone { link } => self.tell_on(link, SessionInput::LinkGone { link }, config),
-            Event::End => Ok(()),
+            Event::End => {}
         }
     }
 
-    /// The next action that came of the last event. It takes no memory.
+    /// The next thing that came of the last event. It takes no memory.
     pub fn step(&mut self) -> Step
         ensures steps { Steps result self.old self.new }
         ensures stands { (config : Config) (run : List Entry) → WorkerStands config self.old run
             → WorkerStands config self.new run }
+        ensures links { self.new.last_link ≡ self.old.last_link }
     {
-        match self.outs.pop_front() {
-            Some(action) => {
-                self.release_dropped(&action);
-                Step::Act(action)
-            }
-            None => Step::Idle,
+        if let Some(action) = self.next_out() {
+            self.release_dropped(&action);
+            return Step::Act(action);
         }
-    }
-
-    /// Forgets whose a link was that an action gives up.
-    fn release_dropped(&mut self, action: &Action)
-        ensures stands { (config : Config) (run : List Entry) → WorkerStands config self.old run
-            → WorkerStands config self.new run }
-        ensures rest { self.new ≡ record self.old { owners = self.new.owners } }
-    {
-        if let Action::Drop { link, .. } = action {
-            self.release(*link);
+        if let Some(step) = self.next_ending() {
+            return step;
         }
+        self.ahead = Ahead::Nothing;
+        Step::Idle
     }
 }

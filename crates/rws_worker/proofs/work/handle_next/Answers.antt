@@ -1,10 +1,9 @@
-use Rattle.std.proofs.Common.{◌≡◌, ℕ, ◌+◌, ◌^◌, ◌<◌, ◌≤◌, true, false, [], ◌∷◌, ◌++◌, sym, ◌∙◌, subst, refl, arith}
-use Rattle.rws_board.specs.Boards.{Standing}
+use Rattle.std.proofs.Common.{◌≡◌, false, [], ◌∷◌, ◌++◌, sym, ◌∙◌, subst, refl, arith}
 use Rattle.rws_board.specs.Boards.Standing.{NextFailed}
 use Rattle.rws_board.specs.declared.board_fault.BoardFault.{BoardFault}
 use Rattle.rws_board.specs.declared.interaction.Interaction.TheVariants.{Gave}
-use Rattle.rws_worker.specs.Working.{IsUnderway, TakesSome, is_end}
-use Rattle.rws_worker.specs.Working.Works.{ended, unread, too_many, starved, starved_reading}
+use Rattle.rws_worker.specs.Working.{TakesSome, is_end}
+use Rattle.rws_worker.specs.Working.Works.{ended, unread, too_many, starved_reading}
 use Rattle.rws_worker.specs.Standing.{interactions_of}
 use Rattle.rws_worker.proofs.WorkLemmas.{resting, at_end, not_at_end, underway_on, ends_untaken, ends_starved}
 use Rattle.rws_worker.proofs.work.handle_next.Goals as goal
@@ -43,18 +42,13 @@ returns-then-events-eq4294967295 g c = record {
   failed = λ e. absurd cc;
 }
 
-pub returns-in-Err-clause-goes : goal.returns-in-Err-clause-goes
-returns-in-Err-clause-goes g c = λ start u.
-    starved u.run c.in-Ok.event (resting u)
-    (not_at_end (g.B.Board.did start c.next.new.self) (interactions_of u.run) c.in-Ok.event (sym c.is_end.ensures ∙ c.if-is_end.false)
-    (c.in-Ok.ensures.did start (interactions_of u.run) u.done_so_far))
-
 pub returns-in-Ok-act_all-clause-goes : goal.returns-in-Ok-act_all-clause-goes
 returns-in-Ok-act_all-clause-goes g c = λ start u.
     let no_end : is_end c.in-Ok.event ≡ false = sym c.is_end.ensures ∙ c.if-is_end.false in
-    let a = c.in-Ok-give.ensures u.run u.stands in
+    let a = c.give.ensures.advances u.run u.stands in
     underway_on u c.in-Ok.event no_end c.give.new.self a (let f = u.few in let h = c.if-events-eq4294967295.false in omega arith)
     c.act_all.new.worker (c.act_all.ensures.stands c.args.config.now a.now a.stands)
+    (let one = c.give.ensures.links in let same = c.act_all.ensures.links in let before = u.opened in omega arith)
     (c.in-Ok-act_all.ensures.acts start (interactions_of u.run ++ Gave c.in-Ok.event ∷ [])
     (not_at_end (g.B.Board.did start c.next.new.self) (interactions_of u.run) c.in-Ok.event no_end
     (c.in-Ok.ensures.did start (interactions_of u.run) u.done_so_far)))
@@ -62,7 +56,7 @@ returns-in-Ok-act_all-clause-goes g c = λ start u.
 pub returns-in-Err-Failed-act_all-clause-goes : goal.returns-in-Err-Failed-act_all-clause-goes
 returns-in-Err-Failed-act_all-clause-goes g c = λ start u.
     let no_end : is_end c.in-Ok.event ≡ false = sym c.is_end.ensures ∙ c.if-is_end.false in
-    let a = c.in-Ok-give.ensures u.run u.stands in
+    let a = c.give.ensures.advances u.run u.stands in
     ends_untaken u c.in-Ok.event no_end c.give.new.self a (let f = u.few in let h = c.if-events-eq4294967295.false in omega arith)
     (subst (λ (fault : BoardFault). TakesSome (g.B.Board.did start c.act_all.new.board) (interactions_of u.run ++ Gave c.in-Ok.event ∷ []) c.give.new.self fault) c.in-Err-Failed-act_all.field-0-is
     (c.in-Err-Failed-act_all.ensures.acts start (interactions_of u.run ++ Gave c.in-Ok.event ∷ [])
@@ -72,7 +66,7 @@ returns-in-Err-Failed-act_all-clause-goes g c = λ start u.
 pub returns-in-Err-OutOfMemory-act_all-clause-goes : goal.returns-in-Err-OutOfMemory-act_all-clause-goes
 returns-in-Err-OutOfMemory-act_all-clause-goes g c = λ start u.
     let no_end : is_end c.in-Ok.event ≡ false = sym c.is_end.ensures ∙ c.if-is_end.false in
-    let a = c.in-Ok-give.ensures u.run u.stands in
+    let a = c.give.ensures.advances u.run u.stands in
     ends_starved u c.in-Ok.event no_end c.give.new.self a (let f = u.few in let h = c.if-events-eq4294967295.false in omega arith)
     (subst (λ (fault : BoardFault). TakesSome (g.B.Board.did start c.act_all.new.board) (interactions_of u.run ++ Gave c.in-Ok.event ∷ []) c.give.new.self fault) c.in-Err-OutOfMemory-act_all.field-0-is
     (c.in-Err-OutOfMemory-act_all.ensures.acts start (interactions_of u.run ++ Gave c.in-Ok.event ∷ [])

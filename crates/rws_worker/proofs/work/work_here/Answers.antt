@@ -6,9 +6,10 @@ events-init g c = (
   record {
     run = [];
     stands = c.new-worker.ensures.stands c.args.config.now;
-    fetched = c.new-worker.ensures.nothing;
+    idle = c.new-worker.ensures.idle;
     counted = refl;
     few = omega arith;
+    opened = let none = c.new-worker.ensures.links in omega arith;
     told = refl;
     done_so_far = g.met.B.Board.did_nothing c.args.board.now;
   },

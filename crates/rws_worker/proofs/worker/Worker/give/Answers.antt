@@ -5,7 +5,7 @@ use Rattle.rws_worker.specs.Standing.{Advances}
 use Rattle.rws_worker.proofs.EventLemmas.{passes}
 use Rattle.rws_worker.proofs.worker.Worker.give.Goals as goal
 
-pub returns-in-End : goal.returns-in-End
-returns-in-End c = λ run w.
+pub returns-in-End-clause-advances : goal.returns-in-End-clause-advances
+returns-in-End-clause-advances c = λ run w.
     subst (λ (e : Event). Advances c.args.config.now run e c.args.self.now) (sym c.in-End.is)
-    (passes c.args.config.now c.args.self.now c.args.self.now run events.End w refl c.requires.fetched (λ _. refl) (λ _. refl) refl (omega arith) refl)
+    (passes c.args.config.now c.args.self.now c.args.self.now run events.End w refl c.requires.idle c.requires.idle (λ _. refl) (λ _. refl) refl (omega arith))

@@ -1,4 +1,4 @@
-use Rattle.std.proofs.Common.{◌≡◌, refl, ◌∙◌, sym, None, Some}
+use Rattle.std.proofs.Common.{◌≡◌, refl, ◌∙◌, sym, None}
 use Rattle.std.specs.BTreeMap.{get}
 use Rattle.std.specs.Ordering.{nat_cmp}
 use Rattle.rws_record.specs.Run.IsRun.{starts}
@@ -10,6 +10,8 @@ returns-clause-stands c = λ config. record {
   legal = starts;
   rests = refl;
   seats = λ session. rw c.new.ensures.empty refl;
+  fetched = λ session kept e g.
+      let none : get nat_cmp c.new.result session ≡ None = rw c.new.ensures.empty refl in absurd (none_some kept (sym none ∙ e));
   owned = λ link session e.
       let none : get nat_cmp c.new-2.result link ≡ None = rw c.new-2.ensures.empty refl in absurd (none_some session (sym none ∙ e));
   owns = λ link session o h. absurd (none_some session o);

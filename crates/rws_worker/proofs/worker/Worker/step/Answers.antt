@@ -1,0 +1,9 @@
+use Rattle.std.proofs.Common.{◌∙◌, sym}
+use Rattle.rws_worker.proofs.StepsLemmas.{ends_on}
+use Rattle.rws_worker.proofs.worker.Worker.step.Goals as goal
+
+pub returns-in-Some-next_ending-clause-steps : goal.returns-in-Some-next_ending-clause-steps
+returns-in-Some-next_ending-clause-steps c =
+    ends_on c.args.self.now c.next_ending.new.self c.in-Some-next_ending.step c.in_default.ensures.out.0
+    (c.next_ending.ensures.outs ∙ c.in_default.ensures.out.1)
+    (sym c.next_out.ensures.endings ∙ c.in-Some-next_ending.ensures.step)
