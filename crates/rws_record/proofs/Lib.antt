@@ -1,6 +1,8 @@
 -- how a record, and a run, goes on
 pub mod LinkedLemmas
+pub mod WithoutLemmas
 pub mod StepLemmas
+pub mod RestLemmas
 pub mod EntryLemmas
 -- the law that events determine the run
 pub mod OneRunLemmas

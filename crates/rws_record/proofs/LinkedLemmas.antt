@@ -73,6 +73,29 @@ says Rests said n a = inl (sym a)
 says (Awaits e unread) said n a = by_beginning e unread (first_payload SERVER_PAYLOAD e.next unread) said refl a
 says (IsLost cause) said n a = inr (subst (Says (IsLost cause)) a again)
 
+-- what a link that says a payload, or that it is lost, is then
+
+pub after_part_is : (e : Exchange) (unread payload rest : List ℕ) (number : ℕ) (its : Role) (far : Progress)
+    → first_payload SERVER_PAYLOAD e.next unread ≡ Whole payload number rest → role e.kind e.sofar payload ≡ Some its
+    → progress e.kind e.sofar payload ≡ Some far
+    → (step (Awaits e unread)).after ≡ behind_part (with_part payload number e) rest far
+after_part_is e unread payload rest number its far f r p = rw (f, r, p) refl
+
+wrong_is : (e : Exchange) (payload rest : List ℕ) (number : ℕ) (its : Option Role) (far : Option Progress) → far ≡ None
+    → (replied_by e payload number rest its far).after ≡ IsLost BadReply
+wrong_is e payload rest number (Some its) None none = refl
+wrong_is e payload rest number None None none = refl
+wrong_is e payload rest number its (Some far) none = absurd cc
+
+pub after_loss_is : (link : LinkState) (said : LinkStep) (cause : LinkCause) → Says link said → said ≡ steps.Lost cause
+    → (step link).after ≡ IsLost cause
+after_loss_is link said cause (part f r p) is = absurd cc
+after_loss_is link said cause (garbled f) is = let same : BadWire ≡ cause = cc in rw f (ap IsLost same)
+after_loss_is link said cause (wrong {e = e} {payload = payload} {rest = rest} {number = number} f p) is =
+    let same : BadReply ≡ cause = cc in
+    rw f (wrong_is e payload rest number (role e.kind e.sofar payload) (progress e.kind e.sofar payload) p ∙ ap IsLost same)
+after_loss_is link said cause again is = let same : steps.Lost _ ≡ steps.Lost cause = is in cc
+
 -- a link that says nothing stays as it is
 replied_idle : (e : Exchange) (payload rest : List ℕ) (number : ℕ) (its : Option Role) (far : Option Progress)
     → (replied_by e payload number rest its far).answer ≡ steps.Idle → ⊥

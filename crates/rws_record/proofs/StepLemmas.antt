@@ -21,7 +21,8 @@ use Rattle.rws_record.specs.Record.{IsInput}
 
 -- what is due of bytes that came
 pub data Due (config : Config) (past : List Item) : Item → Type 0 where
-  comes : {link : ℕ} {said : LinkStep} → Contains (links past) link → Says (linked link past) said
+  comes : {link : ℕ} {said : LinkStep} → Contains (links past) link → (step (linked link past)).answer ≡ said
+      → Says (linked link past) said
       → Due config past (Comes link said)
   takes : {payload rest : List ℕ} {number : ℕ} → pending past ≡ None
       → first_payload config.command_bytes 0 (held config past) ≡ Whole payload number rest
@@ -64,25 +65,26 @@ module _ (config : Config) (past : List Item) (item : Item) where
       by_test true t e = let same : Puts (Sends link (Asks command)) ≡ item = cc in subst (Step config past) same (sends o n p s k t)
       by_test false t e = absurd cc
 
-  its_comes : (link : ℕ) (said : LinkStep) → Contains (links past) link → Says (linked link past) said
-      → Some (Comes link said) ≡ Some item → Due config past item
-  its_comes link said has it e = let same : Comes link said ≡ item = cc in as_due same (comes has it)
+  its_comes : (link : ℕ) (said : LinkStep) → Contains (links past) link → (step (linked link past)).answer ≡ said
+      → Says (linked link past) said → Some (Comes link said) ≡ Some item → Due config past item
+  its_comes link said has a it e = let same : Comes link said ≡ item = cc in as_due same (comes has a it)
 
   of_coming : (link : ℕ) (said : LinkStep) → Contains (links past) link → (step (linked link past)).answer ≡ said
       → coming link said ≡ Some item → Due config past item
-  of_coming link said has a e = by_says said (says (linked link past) said (never_logs_in link past) a) e
+  of_coming link said has a e = by_says said a (says (linked link past) said (never_logs_in link past) a) e
     where
-      by_says : (said : LinkStep) → (said ≡ steps.Idle) ⊎ Says (linked link past) said → coming link said ≡ Some item → Due config past item
-      by_says steps.Idle it e = absurd cc
-      by_says (steps.Send bytes) (inl idle) e = absurd cc
-      by_says (steps.Send bytes) (inr it) e = its_comes link (steps.Send bytes) has it e
-      by_says steps.LoggedIn (inl idle) e = absurd cc
-      by_says steps.LoggedIn (inr it) e = its_comes link steps.LoggedIn has it e
-      by_says (steps.Part payload role progress next behind) (inl idle) e = absurd cc
-      by_says (steps.Part payload role progress next behind) (inr it) e =
-          its_comes link (steps.Part payload role progress next behind) has it e
-      by_says (steps.Lost cause) (inl idle) e = absurd cc
-      by_says (steps.Lost cause) (inr it) e = its_comes link (steps.Lost cause) has it e
+      by_says : (said : LinkStep) → (step (linked link past)).answer ≡ said → (said ≡ steps.Idle) ⊎ Says (linked link past) said
+          → coming link said ≡ Some item → Due config past item
+      by_says steps.Idle a it e = absurd cc
+      by_says (steps.Send bytes) a (inl idle) e = absurd cc
+      by_says (steps.Send bytes) a (inr it) e = its_comes link (steps.Send bytes) has a it e
+      by_says steps.LoggedIn a (inl idle) e = absurd cc
+      by_says steps.LoggedIn a (inr it) e = its_comes link steps.LoggedIn has a it e
+      by_says (steps.Part payload role progress next behind) a (inl idle) e = absurd cc
+      by_says (steps.Part payload role progress next behind) a (inr it) e =
+          its_comes link (steps.Part payload role progress next behind) has a it e
+      by_says (steps.Lost cause) a (inl idle) e = absurd cc
+      by_says (steps.Lost cause) a (inr it) e = its_comes link (steps.Lost cause) has a it e
 
   -- a list of links of which each is one of the session's
   of_arrivals : (some : List ℕ) → ((link : ℕ) → Contains some link → Contains (links past) link)
@@ -142,7 +144,7 @@ rests_with_nothing_due config past e over = by_owed (owed past) e
 -- No step of a session's own opens a link.
 
 due_opens_none : {config : Config} {past : List Item} {item : Item} → Due config past item → opens item ≡ None
-due_opens_none (comes has it) = refl
+due_opens_none (comes has a it) = refl
 due_opens_none (takes p f) = refl
 due_opens_none (takes_fault p f) = refl
 

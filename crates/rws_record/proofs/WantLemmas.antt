@@ -16,7 +16,7 @@ use Rattle.rws_record.proofs.StepLemmas.Step.{pays, sends, reads}
 -- No step, and nothing that is heard, is want of memory
 
 due_starved : {config : Config} {past : List Item} {item : Item} → Due config past item → is_starved (item ∷ past) ≡ is_starved past
-due_starved (comes has it) = refl
+due_starved (comes has a it) = refl
 due_starved (takes p f) = refl
 due_starved (takes_fault p f) = refl
 

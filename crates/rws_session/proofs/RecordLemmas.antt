@@ -12,41 +12,13 @@ use Rattle.rws_record.specs.Rules.{next, owed, follow, after_fault}
 use Rattle.rws_record.specs.Record.{IsRecord, IsInput}
 use Rattle.rws_record.specs.Record.IsRecord.{begins, steps, hears, starves}
 use Rattle.rws_record.proofs.StepLemmas.{Due, Step, of_next, rests_owing_nothing, step_opens_none, input_opens_none}
+use Rattle.rws_record.proofs.WithoutLemmas.{without_has_less, without_keeps_out}
 use Rattle.rws_record.proofs.WantLemmas.{closes_soon, closes_behind, input_starved, step_starved, unstarved}
 use Rattle.rws_record.proofs.StepLemmas.Due.{comes, takes, takes_fault}
 use Rattle.rws_record.proofs.StepLemmas.Step.{pays, sends, reads}
 use Rattle.rws_session.specs.Table.{AreDistinct}
 
 -- A list without one of its links
-
-without_keeps_out : (link other : ℕ) (links : List ℕ) → contains other links ≡ false → contains other (without link links) ≡ false
-without_keeps_out link other [] e = refl
-without_keeps_out link other (first ∷ rest) e =
-    by_tests (first == link) (first == other) refl refl e (without_keeps_out link other rest)
-  where
-    by_tests : (test also : Bool) → (first == link) ≡ test → (first == other) ≡ also
-        → (if also then true else contains other rest) ≡ false
-        → (contains other rest ≡ false → contains other (without link rest) ≡ false)
-        → contains other (without link (first ∷ rest)) ≡ false
-    by_tests test true t a e behind = absurd cc
-    by_tests true false t a e behind = rw t (behind e)
-    by_tests false false t a e behind = rw t (rw a (behind e))
-
-pub without_has_not : (link : ℕ) (links : List ℕ) → contains link (without link links) ≡ false
-without_has_not link [] = refl
-without_has_not link (first ∷ rest) = by_test (first == link) refl (without_has_not link rest)
-  where
-    by_test : (test : Bool) → (first == link) ≡ test → contains link (without link rest) ≡ false
-        → contains link (without link (first ∷ rest)) ≡ false
-    by_test true t behind = rw t behind
-    by_test false t behind = rw t (rw t behind)
-
-without_has_less : (link other : ℕ) (links : List ℕ) → contains other (without link links) ≡ true → contains other links ≡ true
-without_has_less link other links e = by_test (contains other links) refl
-  where
-    by_test : (test : Bool) → contains other links ≡ test → contains other links ≡ true
-    by_test true t = t
-    by_test false t = let out = without_keeps_out link other links t in absurd cc
 
 without_distinct : (link : ℕ) (links : List ℕ) → AreDistinct links → AreDistinct (without link links)
 without_distinct link [] distinct = tt
@@ -123,7 +95,7 @@ pays_readable {past} (Drops link cause) {others} o (ends soon) =
 
 due_readable : {config : Config} {past : List Item} {item : Item} → Due config past item → client_fault past ≡ None
     → IsReadable (item ∷ past)
-due_readable (comes has it) none = sound none
+due_readable (comes has a it) none = sound none
 due_readable (takes p f) none = sound none
 due_readable {past = past} (takes_fault {fault = fault} p f) none = ends (closes fault)
   where
