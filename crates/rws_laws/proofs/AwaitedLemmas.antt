@@ -1,5 +1,5 @@
 -- The reply to a command that was sent is awaited, until its end is passed on or the session is closed.
-use Rattle.std.proofs.Common.{◌≡◌, ℕ, Bool, true, false, List, [], ◌∷◌, ◌++◌, drop, refl, sym, ap, subst, ◌∙◌, inl, inr, Option, Some, None}
+use Rattle.std.proofs.Common.{◌≡◌, ℕ, ◌+◌, Bool, true, false, List, [], ◌∷◌, ◌++◌, drop, refl, sym, ap, subst, ◌∙◌, inl, inr, Option, Some, None}
 use Rattle.std.specs.Prelude.{◌⊎◌, ◌==◌, if◌then◌else◌}
 use Rattle.std.proofs.lemmas.Bool.{eqb-true, eq-eqb}
 use Rattle.rws_wire.specs.declared.drop_cause.DropCause.{DropCause}
@@ -21,19 +21,19 @@ use Rattle.rws_config.specs.declared.config.Config.{Config}
 use Rattle.rws_config.specs.declared.limits.TheConstants.{SERVER_PAYLOAD}
 use Rattle.rws_record.specs.declared.command.Command.{Command}
 use Rattle.rws_record.specs.Item.{Item, Tell, Put}
-use Rattle.rws_record.specs.Item.Item.{ClientBytes, LinkBytes, ClientGone, LinkLost, Comes, TakesFault, Puts}
+use Rattle.rws_record.specs.Item.Item.{ClientBytes, LinkBytes, ClientGone, LinkLost, Comes, TakesFault, Floods, Puts}
 use Rattle.rws_record.specs.Item.Purpose.{Asks}
 use Rattle.rws_record.specs.Item.Put.{Tells, Sends, Drops, Closes}
 use Rattle.rws_record.specs.Item.Tell.{Passes, Owns, Refuses}
 use Rattle.rws_record.specs.Values.{kept_on, asked_on, awaited, exchange, linked, prepared_handle, pending, sent_on, reply_number, told, is_over, is_starved}
-use Rattle.rws_record.specs.Rules.{next, owed, after_loss, after_answer, form_of}
+use Rattle.rws_record.specs.Rules.{next, owed, after_loss, after_answer, flood_limit, form_of}
 use Rattle.rws_record.proofs.LinkedLemmas.{Says, after_part_is}
 use Rattle.rws_record.proofs.LinkedLemmas.Says.{part, garbled, wrong, again}
 use Rattle.rws_record.specs.Record.{IsRecord, IsInput}
 use Rattle.rws_record.specs.Record.IsRecord.{begins, steps, hears, starves}
 use Rattle.rws_record.proofs.StepLemmas.{Due, Step, of_next, rests_owing_nothing}
 use Rattle.rws_record.proofs.StepLemmas.Due.{comes, takes, takes_fault}
-use Rattle.rws_record.proofs.StepLemmas.Step.{pays, sends, reads}
+use Rattle.rws_record.proofs.StepLemmas.Step.{pays, sends, floods, reads}
 use Rattle.rws_laws.specs.Causes.{IsCaused, came_on}
 use Rattle.rws_laws.proofs.CameLemmas.{bytes_keep, legal_came}
 use Rattle.rws_laws.proofs.Sound.{Caused, Sound, kept_there, same_some}
@@ -137,7 +137,7 @@ module _ (config : Config) (past : List Item) (sound : Sound config past) (await
             let is : linked link past ≡ Awaits e bytes = subst (λ (l : ℕ). linked l past ≡ Awaits e bytes) same is in
             awaits {e = with_part payload number e}
             (rw t (ap (λ (l : LinkState). awaited (step l).after) is ∙ ap awaited (after_part_is e bytes payload rest number its More f r p)))
-        by_link link s false t = let mine = its_reply link s in awaits (rw t mine.1)
+        by_link link s false t = let mine = its_reply link s in awaits {e = mine.0} (rw t mine.1)
 
     coming_awaits : (from : ℕ) (state : LinkState) (said : LinkStep) → linked from past ≡ state → Says state said
         → Awaiting (Comes from said ∷ past)
@@ -174,6 +174,8 @@ step_awaits : {config : Config} {past : List Item} {item : Item} → Step config
 step_awaits {config} {past} (pays {put = put} {others = others} o) sound awaiting =
     put_awaits config past sound awaiting put others o (subst (λ (list : List Put). Caused config list past) o sound.owes)
 step_awaits {past = past} (sends {link = to} {command = command} o n p s k c) sound awaiting = send_awaits past to command
+step_awaits {config} {past} (floods o n p above) sound awaiting =
+    still config past sound awaiting o n (Floods (flood_limit config + 1)) refl (λ link. refl)
 step_awaits {config} {past} (reads o n due) sound awaiting = due_awaits config past sound awaiting o n due
 
 legal_awaits : {config : Config} {past : List Item} → IsRecord config past → is_starved past ≡ false → Awaiting past

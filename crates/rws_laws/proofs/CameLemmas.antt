@@ -22,7 +22,7 @@ use Rattle.rws_record.proofs.LinkedLemmas.{Says, after_loss_is, after_part_is}
 use Rattle.rws_record.proofs.LinkedLemmas.Says.{part, garbled, wrong, again}
 use Rattle.rws_record.proofs.StepLemmas.{Due, Step, of_next}
 use Rattle.rws_record.proofs.StepLemmas.Due.{comes, takes, takes_fault}
-use Rattle.rws_record.proofs.StepLemmas.Step.{pays, sends, reads}
+use Rattle.rws_record.proofs.StepLemmas.Step.{pays, sends, floods, reads}
 use Rattle.rws_laws.specs.Causes.{came_on, with_said}
 
 -- nothing came yet
@@ -121,6 +121,7 @@ put_came past (Closes reason) came = came
 step_came : {config : Config} {past : List Item} {item : Item} → Step config past item → Came past → Came (item ∷ past)
 step_came {past = past} (pays {put = put} o) came = put_came past put came
 step_came {past = past} (sends {link = to} {command = command} o n p s k c) came = sending_came past to (Asks command) came
+step_came (floods o n p above) came = came
 step_came (reads o n due) came = due_came due came
 
 input_came : (past : List Item) (item : Item) → IsInput item past → Came past → Came (item ∷ past)

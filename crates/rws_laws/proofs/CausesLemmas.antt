@@ -22,14 +22,14 @@ use Rattle.rws_record.proofs.LinkedLemmas.Says.{part, garbled, wrong, again}
 use Rattle.rws_record.proofs.WantLemmas.{step_starved}
 use Rattle.rws_record.proofs.StepLemmas.{Due, Step, of_next}
 use Rattle.rws_record.proofs.StepLemmas.Due.{comes, takes, takes_fault}
-use Rattle.rws_record.proofs.StepLemmas.Step.{pays, sends, reads}
+use Rattle.rws_record.proofs.StepLemmas.Step.{pays, sends, floods, reads}
 use Rattle.rws_record.proofs.RecordLemmas.{records}
 use Rattle.rws_laws.specs.Causes.{IsCaused, IsBehind, IsRead, AreCaused}
 use Rattle.rws_laws.specs.Causes.Took.{took}
 use Rattle.rws_laws.specs.Causes.TookFault.{took_fault}
 use Rattle.rws_laws.specs.Laws.{Causes, CausesInRuns}
 use Rattle.rws_laws.proofs.Sound.{Caused, first_caused, Sound, has_itself, goes_with_one, same_some}
-use Rattle.rws_laws.proofs.SoundLemmas.{legal_sound}
+use Rattle.rws_laws.proofs.SoundLemmas.{legal_sound, noted}
 use Rattle.rws_laws.proofs.WantedLemmas.{ends_caused, legal_ends}
 
 some_byte : (rest : List ℕ) → IsBehind (is_some_byte rest) rest
@@ -87,6 +87,7 @@ step_caused : {config : Config} {past : List Item} {item : Item} → Step config
 step_caused {config} {past} (pays o) sound after below =
     (first_caused (subst (λ (list : List Put). Caused config list past) o sound.owes), below)
 step_caused (sends o n p s k c) sound after below = (send_caused o n p s k sound, below)
+step_caused (floods o n p above) sound after below = (n, noted p above sound, below)
 step_caused (reads o n due) sound after below = due_read due after n below
 
 -- whether memory was wanting before or not

@@ -13,7 +13,7 @@ use Rattle.rws_record.specs.Record.{IsRecord, IsInput}
 use Rattle.rws_record.specs.Record.IsRecord.{begins, steps, hears, starves}
 use Rattle.rws_record.proofs.StepLemmas.{Due, Step, of_next, rests_owing_nothing}
 use Rattle.rws_record.proofs.StepLemmas.Due.{comes, takes, takes_fault}
-use Rattle.rws_record.proofs.StepLemmas.Step.{pays, sends, reads}
+use Rattle.rws_record.proofs.StepLemmas.Step.{pays, sends, floods, reads}
 use Rattle.rws_laws.proofs.Sound.{Links, Sound}
 use Rattle.rws_laws.proofs.Sound.Links.{has_one, is_over_now, closes_now}
 use Rattle.rws_record.proofs.WantLemmas.{step_starved}
@@ -68,6 +68,7 @@ leaves_step : {config : Config} {past : List Item} {item : Item} → Step config
     → Leaves (item ∷ past)
 leaves_step {past = past} (pays {put = put} {others = others} o) sound leaves = leaves_put past put others o sound.one_link leaves
 leaves_step (sends o n p s k c) sound leaves = λ over. absurd cc
+leaves_step (floods o n p above) sound leaves = λ over. absurd cc
 leaves_step (reads o n due) sound leaves = λ over. let not_over = goes_on_here due n in absurd cc
 
 leaves : {config : Config} {past : List Item} → IsRecord config past → is_starved past ≡ false → Leaves past

@@ -18,7 +18,7 @@ use Rattle.rws_link.specs.declared.step.LinkStep.{LinkStep}
 use Rattle.rws_link.specs.declared.step.LinkStep.TheVariants as steps
 use Rattle.rws_link.specs.Stepping.{LinkState, LogsIn, Rests, Awaits, IsLost, Exchange, behind_part, fed, read_by, replied, replied_by, sent, settled, step, with_part}
 use Rattle.rws_record.specs.Item.{Item, Purpose, Put}
-use Rattle.rws_record.specs.Item.Item.{Began, ClientBytes, LinkBytes, ClientGone, LinkLost, Comes, Takes, TakesFault, Puts, Starves}
+use Rattle.rws_record.specs.Item.Item.{Began, ClientBytes, LinkBytes, ClientGone, LinkLost, Comes, Takes, TakesFault, Floods, Puts, Starves}
 use Rattle.rws_record.specs.Item.Put.{Tells, Sends, Drops, Closes}
 use Rattle.rws_record.specs.Item.Purpose.{Asks}
 use Rattle.rws_record.specs.Values.{awaited, contains, is_starved, kind_of, linked, links, sent_for, unread}
@@ -29,7 +29,7 @@ use Rattle.rws_record.proofs.LinkedLemmas.{Says, after_loss_is, after_part_is, l
 use Rattle.rws_record.proofs.LinkedLemmas.Says.{part, garbled, wrong, again}
 use Rattle.rws_record.proofs.StepLemmas.{Due, Step, of_next, rests_owing_nothing}
 use Rattle.rws_record.proofs.StepLemmas.Due.{comes, takes, takes_fault}
-use Rattle.rws_record.proofs.StepLemmas.Step.{pays, sends, reads}
+use Rattle.rws_record.proofs.StepLemmas.Step.{pays, sends, floods, reads}
 use Rattle.rws_record.proofs.WantLemmas.{input_starved, step_starved}
 use Rattle.rws_record.proofs.WithoutLemmas.{without_has_not, without_keeps_out}
 use Rattle.rws_laws.specs.Causes.{WasUnasked}
@@ -121,6 +121,7 @@ was_unasked link (ClientGone ∷ past) now = earlier (was_unasked link past now)
 was_unasked link (LinkLost gone ∷ past) now = earlier (was_unasked link past now)
 was_unasked link (Takes judged number ∷ past) now = earlier (was_unasked link past now)
 was_unasked link (TakesFault fault ∷ past) now = earlier (was_unasked link past now)
+was_unasked link (Floods bytes ∷ past) now = earlier (was_unasked link past now)
 was_unasked link (Starves made ∷ past) now = earlier (was_unasked link past now)
 was_unasked link (Puts (Tells number tell) ∷ past) now = earlier (was_unasked link past now)
 was_unasked link (Puts (Drops given cause) ∷ past) now = earlier (was_unasked link past now)
@@ -251,6 +252,7 @@ step_loses : {config : Config} {past : List Item} {item : Item} → Step config 
 step_loses {past = past} (pays {put = put} {others = others} o) all = put_loses past put others o all
 step_loses {past = past} (sends {link = to} {command = command} o n p s k c) all =
     sending_loses past to (Asks command) (λ link cause now. still o (λ less. less) (all link cause now))
+step_loses (floods o n p above) all = λ link cause now. still o (λ less. less) (all link cause now)
 step_loses (reads o n due) all = due_loses o due all
 
 input_loses : (past : List Item) (item : Item) → owed past ≡ [] → IsInput item past → AllLosing past → AllLosing (item ∷ past)

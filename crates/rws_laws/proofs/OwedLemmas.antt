@@ -33,9 +33,9 @@ use Rattle.rws_record.specs.Item.Tell.{Passes}
 use Rattle.rws_record.specs.Requests.{request_of}
 use Rattle.rws_record.specs.Judging.{judged_by, refusal_of}
 use Rattle.rws_record.specs.Values.{links, kept_on, asked_on, awaited, exchange, linked, prepared_handle, link_held, pending, sent_on, reply_number, told, told_from, is_over}
-use Rattle.rws_record.specs.Rules.{is_link, after_loss, after_loss_by, loss_by, after_command, after_fault, after_answer, form_of, unasked}
+use Rattle.rws_record.specs.Rules.{is_link, after_loss, after_loss_by, loss_by, after_command, after_fault, after_flood, after_answer, form_of, unasked}
 use Rattle.rws_record.proofs.LinkedLemmas.{after_part_is}
-use Rattle.rws_laws.specs.Causes.{Took, TookFault, IsPending, IsOfReply, IsPassed, came_on, lost}
+use Rattle.rws_laws.specs.Causes.{Took, TookFault, Flooded, IsPending, IsOfReply, IsPassed, came_on, lost}
 use Rattle.rws_laws.specs.Causes.IsWrong.{wrong}
 use Rattle.rws_laws.specs.Causes.WasUnasked.{behind_reply, earlier}
 use Rattle.rws_laws.specs.Causes.Asked.{before}
@@ -117,7 +117,10 @@ command_caused config payload number past requests.Unknown r taken = tells (payl
 pub fault_caused : (config : Config) (fault : WireFault) (past : List Item) → TookFault config fault past
     → Caused config (after_fault fault) past
 fault_caused config (faults.OutOfOrder want got) past taken = tells (want, got, taken, refl) (closes (past, refl, taken))
-fault_caused config (faults.TooLarge length) past taken = tells (length, taken, refl) (closes (past, refl, taken))
+fault_caused config (faults.TooLarge length) past taken = tells (inl (length, taken), refl) (closes (past, refl, taken))
+
+pub flood_caused : (config : Config) (bytes : ℕ) (past : List Item) → Flooded config bytes past → Caused config (after_flood bytes) past
+flood_caused config bytes past noted = tells (inr (bytes, noted), refl) (closes (past, refl, noted))
 
 -- A payload of an awaited reply
 

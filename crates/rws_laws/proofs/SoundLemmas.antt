@@ -1,5 +1,5 @@
 -- Each step of a legal record keeps it sound.
-use Rattle.std.proofs.Common.{◌≡◌, ℕ, Bool, true, false, List, [], ◌∷◌, ◌++◌, drop, refl, sym, ap, subst, ◌∙◌, append_assoc, Option, Some, None}
+use Rattle.std.proofs.Common.{◌≡◌, ℕ, ◌+◌, ◌<◌, Bool, true, false, List, [], ◌∷◌, ◌++◌, length, drop, refl, sym, ap, subst, ◌∙◌, append_assoc, arith, Option, Some, None}
 use Rattle.std.specs.Prelude.{Contains, ◌==◌, if◌then◌else◌}
 use Rattle.std.proofs.lemmas.Bool.{eqb-true, eq-eqb}
 use Rattle.std.proofs.lemmas.List.{append-nil}
@@ -29,14 +29,14 @@ use Rattle.rws_record.specs.declared.command.Command.{Command}
 use Rattle.rws_record.specs.declared.request.Request.{Request}
 use Rattle.rws_record.specs.declared.request.Request.TheVariants as requests
 use Rattle.rws_record.specs.Item.{Item, Judged, Tell, Put}
-use Rattle.rws_record.specs.Item.Item.{Began, ClientBytes, LinkBytes, ClientGone, LinkLost, Comes, Takes, TakesFault, Puts}
+use Rattle.rws_record.specs.Item.Item.{Began, ClientBytes, LinkBytes, ClientGone, LinkLost, Comes, Takes, TakesFault, Floods, Puts}
 use Rattle.rws_record.specs.Item.Purpose.{Asks}
 use Rattle.rws_record.specs.Item.Put.{Tells, Sends, Drops, Closes}
 use Rattle.rws_record.specs.Item.Tell.{Passes, Owns, Refuses}
 use Rattle.rws_record.specs.Requests.{request_of}
 use Rattle.rws_record.specs.Judging.{judged, judged_by, refusal_of}
 use Rattle.rws_record.specs.Values.{held, links, contains, kept_on, asked_on, awaited, exchange, kind_of, linked, prepared_handle, link_held, sent_for, unread, pending, sent_on, reply_number, told, told_from, is_over, is_starved}
-use Rattle.rws_record.specs.Rules.{after_loss, after_fault, after_answer, drop_cause, farewells, owed}
+use Rattle.rws_record.specs.Rules.{after_loss, after_fault, after_flood, flood_limit, after_answer, drop_cause, farewells, owed}
 use Rattle.rws_record.specs.Record.{IsRecord, IsInput}
 use Rattle.rws_record.specs.Record.IsRecord.{begins, steps, hears, starves}
 use Rattle.rws_record.proofs.LinkedLemmas.{Says}
@@ -44,8 +44,9 @@ use Rattle.rws_record.proofs.LinkedLemmas.Says.{part, garbled, wrong, again}
 use Rattle.rws_record.proofs.StepLemmas.{Due, Step, of_next, rests_owing_nothing}
 use Rattle.rws_record.proofs.WantLemmas.{input_starved, step_starved}
 use Rattle.rws_record.proofs.StepLemmas.Due.{comes, takes, takes_fault}
-use Rattle.rws_record.proofs.StepLemmas.Step.{pays, sends, reads}
-use Rattle.rws_laws.specs.Causes.{Took, IsCaused}
+use Rattle.rws_record.proofs.StepLemmas.Step.{pays, sends, floods, reads}
+use Rattle.rws_laws.specs.Causes.{Took, Flooded, IsCaused}
+use Rattle.rws_laws.specs.Causes.Flooded.{flooded}
 use Rattle.rws_laws.specs.Causes.Took.{took}
 use Rattle.rws_laws.specs.Causes.TookFault.{took_fault}
 use Rattle.rws_laws.specs.Causes.Asked.{here}
@@ -59,7 +60,7 @@ use Rattle.rws_laws.proofs.Sound.Links.{has_one}
 use Rattle.rws_laws.proofs.Sound.ToldBy.{none_yet, all}
 use Rattle.rws_laws.proofs.LinksLemmas.{is_no_close, links_drop, links_stay, links_close, links_input}
 use Rattle.rws_laws.proofs.ReplyLemmas.{still_asked, asks_on, told_part, unsent_told, told_sent, sent_there, owes_same, lost_passes, drop_passes, farewells_pass, waits_none}
-use Rattle.rws_laws.proofs.OwedLemmas.{farewells_caused, loss_caused, command_caused, fault_caused, CameNext, said, form, grown, owes_then, reply_caused, wrong_caused}
+use Rattle.rws_laws.proofs.OwedLemmas.{farewells_caused, loss_caused, command_caused, fault_caused, flood_caused, CameNext, said, form, grown, owes_then, reply_caused, wrong_caused}
 
 -- What is given out because it is owed
 
@@ -487,6 +488,28 @@ module _ (config : Config) (past : List Item) (sound : Sound config past) (o : o
   }
   input_sound _ input = absurd input
 
+-- too much came behind the pending command
+pub noted : {config : Config} {past : List Item} {command : Command} → pending past ≡ Some command
+    → flood_limit config < length (held config past) → Sound config past
+    → Flooded config (flood_limit config + 1) (Floods (flood_limit config + 1) ∷ past)
+noted {command = command} p above sound =
+    flooded command (record { waits = p; asked = (sound.asks command p).asked }) refl (omega arith)
+
+flood_sound : {config : Config} {past : List Item} {command : Command} → owed past ≡ [] → is_over past ≡ false
+    → pending past ≡ Some command → flood_limit config < length (held config past) → Sound config past
+    → Sound config (Floods (flood_limit config + 1) ∷ past)
+flood_sound {config} {past} o n p above sound =
+    let one = goes_with_one o n sound.one_link in
+    let bytes : ℕ = flood_limit config + 1 in
+    record {
+      one_link = has_one one.0 one.1 one.2;
+      sent = sound.sent;
+      telling = sound.telling;
+      asks = still_asked refl refl refl sound.asks;
+      waits = owes_same (owed past) (after_flood bytes) (ap passed o) sound.waits;
+      owes = flood_caused config bytes (Floods bytes ∷ past) (noted p above sound);
+    }
+
 step_sound : {config : Config} {past : List Item} {item : Item} → Step config past item → Came past
     → (owed past ≡ [] → AreUnasked past) → Sound config past → Sound config (item ∷ past)
 step_sound {config} {past} (pays {put = put} {others = others} o) came unasked sound =
@@ -494,6 +517,7 @@ step_sound {config} {past} (pays {put = put} {others = others} o) came unasked s
 step_sound {config} {past} (sends {link = link} {command = command} o n p s k c) came unasked sound =
     let one = goes_with_one o n sound.one_link in
     send_sound config past sound link command o p s one.0 one.1 one.2 k
+step_sound (floods o n p above) came unasked sound = flood_sound o n p above sound
 step_sound {config} {past} (reads o n due) came unasked sound = due_sound config past sound came (unasked o) o n due
 
 begun_sound : (config : Config) (link server : ℕ) → Sound config (Began link server ∷ [])

@@ -15,7 +15,7 @@ use Rattle.rws_record.specs.Rules.{owed, farewells}
 use Rattle.rws_record.specs.Record.{IsRecord, CanBeMade}
 use Rattle.rws_record.specs.Record.IsRecord.{begins, steps, hears, starves}
 use Rattle.rws_record.proofs.StepLemmas.{Step, of_next, rests_owing_nothing}
-use Rattle.rws_record.proofs.StepLemmas.Step.{pays, sends, reads}
+use Rattle.rws_record.proofs.StepLemmas.Step.{pays, sends, floods, reads}
 use Rattle.rws_record.proofs.WantLemmas.{input_starved, step_starved}
 use Rattle.rws_laws.specs.Causes.{IsCaused, IsStarvedAndTold, AreCaused}
 use Rattle.rws_laws.proofs.Sound.{Links, has_itself}
@@ -65,6 +65,7 @@ pays_end past put others o (leaves over owes few) = left_by past put others o ov
 step_ends : {config : Config} {past : List Item} {item : Item} → Step config past item → Ends past → Ends (item ∷ past)
 step_ends {past = past} (pays {put = put} {others = others} o) ends = pays_end past put others o ends
 step_ends (sends o n p s k c) ends = no_end o n ends
+step_ends (floods o n p above) ends = no_end o n ends
 step_ends (reads o n due) ends = no_end o n ends
 
 want_ends : (past : List Item) (made over : Bool) → is_over past ≡ over → CanBeMade made past → Few past → Ends (Starves made ∷ past)
@@ -108,6 +109,7 @@ pub ends_caused : {config : Config} {past : List Item} {item : Item} → Step co
     → AreCaused config (item ∷ past)
 ends_caused {config} {past} (pays {put = put} {others = others} o) ends below = (end_caused config past put others o ends, below)
 ends_caused (sends o n p s k c) ends below = no_end o n ends
+ends_caused (floods o n p above) ends below = no_end o n ends
 ends_caused (reads o n due) ends below = no_end o n ends
 
 -- Rest

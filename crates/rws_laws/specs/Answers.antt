@@ -1,11 +1,11 @@
 -- What is left to answer where a session rests: the other direction of `Causes`.
-use Rattle.std.specs.Prelude.{◌≡◌, ℕ, true, false, List, [], ◌∷◌, Some, None, Contains}
+use Rattle.std.specs.Prelude.{◌≡◌, ℕ, ◌+◌, ◌≤◌, length, true, false, List, [], ◌∷◌, Some, None, Contains}
 use Rattle.rws_wire.specs.Payloads.{first_payload}
 use Rattle.rws_wire.specs.Payloads.Beginning.{Nothing}
 use Rattle.rws_reply.specs.ClientForm.{client_reply}
 use Rattle.rws_link.specs.Stepping.{Exchange, Rests}
 use Rattle.rws_config.specs.declared.config.Config.{Config}
-use Rattle.rws_config.specs.declared.limits.TheConstants.{SERVER_PAYLOAD}
+use Rattle.rws_config.specs.declared.limits.TheConstants.{FLOOD_ROOM, SERVER_PAYLOAD}
 use Rattle.rws_record.specs.declared.command.Command.{Command}
 use Rattle.rws_record.specs.Item.{Item}
 use Rattle.rws_record.specs.Values.{held, links, kept_on, linked, exchange, prepared_handle, link_held, pending, sent_on, told, is_over}
@@ -23,6 +23,8 @@ pub record HasAnswered (config : Config) (past : List Item) : Type 0 where
       × (told past ≡ client_reply command.kind prepared_handle (came_on link past))
   -- where no command is pending, the client's bytes begin with no whole payload and no fault
   pub client : pending past ≡ None → first_payload config.command_bytes 0 (held config past) ≡ Nothing
+  -- where one is, no more bytes came behind it than a command and the room beside it may have
+  pub room : (command : Command) → pending past ≡ Some command → length (held config past) ≤ config.command_bytes + FLOOD_ROOM
   -- of a reply that is awaited no whole payload came, and no fault
   pub reply : (link : ℕ) (e : Exchange) → Contains (links past) link → exchange link past ≡ Some e
       → first_payload SERVER_PAYLOAD e.next (link_held link past) ≡ Nothing

@@ -1,12 +1,13 @@
 -- Why each item of a session's record stands where it stands. This is a second reading of the record: it says what must
 -- have come and what must have been given out below a place, and names no rule by which a session goes on.
-use Rattle.std.specs.Prelude.{◌≡◌, ◌≢◌, ◌⊎◌, ℕ, Bool, true, false, List, [], ◌∷◌, ◌++◌, ◌==◌, Option, Some, None, Contains, if◌then◌else◌}
+use Rattle.std.specs.Prelude.{◌≡◌, ◌≢◌, ◌⊎◌, ℕ, ◌+◌, ◌≤◌, length, Bool, true, false, List, [], ◌∷◌, ◌++◌, ◌==◌, Option, Some, None, Contains, if◌then◌else◌}
 use Rattle.rws_wire.specs.Packets.{number_behind}
 use Rattle.rws_wire.specs.Payloads.{first_payload}
 use Rattle.rws_wire.specs.Payloads.Beginning.{Whole, Faulty}
 use Rattle.rws_wire.specs.declared.fault.WireFault.{WireFault}
 use Rattle.rws_wire.specs.declared.fault.WireFault.TheVariants as faults
 use Rattle.rws_wire.specs.declared.close_reason.CloseReason.TheVariants.{Quit, OutOfOrder, TooLarge, ResultCut, OutcomeUnknown, SessionState, Memory}
+use Rattle.rws_wire.specs.declared.close_reason.CloseReason.TheVariants as reasons
 use Rattle.rws_wire.specs.declared.drop_cause.DropCause.TheVariants.{BadWire, BadReply, Unasked, End}
 use Rattle.rws_msgs.specs.declared.status.TheConstants.{AUTOCOMMIT}
 use Rattle.rws_reply.specs.declared.kind.Outcome.{Outcome}
@@ -18,12 +19,12 @@ use Rattle.rws_link.specs.declared.step.LinkStep.{LinkStep}
 use Rattle.rws_link.specs.declared.step.LinkStep.TheVariants as steps
 use Rattle.rws_link.specs.Stepping.{Exchange, Rests}
 use Rattle.rws_config.specs.declared.config.Config.{Config}
-use Rattle.rws_config.specs.declared.limits.TheConstants.{SERVER_PAYLOAD}
+use Rattle.rws_config.specs.declared.limits.TheConstants.{FLOOD_ROOM, SERVER_PAYLOAD}
 use Rattle.rws_record.specs.declared.command.Command.{Command}
 use Rattle.rws_record.specs.declared.proxy_error.ProxyError.TheVariants.{UnknownCommand, NotSupported, PacketsOutOfOrder, CommandTooLarge, OutOfMemory}
 use Rattle.rws_record.specs.declared.request.Request.TheVariants as requests
 use Rattle.rws_record.specs.Item.{Item, Put}
-use Rattle.rws_record.specs.Item.Item.{Began, LinkBytes, LinkLost, Comes, Takes, TakesFault, Puts, Starves}
+use Rattle.rws_record.specs.Item.Item.{Began, LinkBytes, LinkLost, Comes, Takes, TakesFault, Floods, Puts, Starves}
 use Rattle.rws_record.specs.Item.Judged.{Serves}
 use Rattle.rws_record.specs.Item.Put.{Tells, Sends, Drops, Closes}
 use Rattle.rws_record.specs.Item.Tell.{Passes, Owns, Refuses}
@@ -58,6 +59,13 @@ pub data Asked (config : Config) (command : Command) : List Item → Type 0 wher
 pub record IsPending (config : Config) (command : Command) (past : List Item) : Type 0 where
   pub waits : pending past ≡ Some command
   pub asked : Asked config command past
+
+-- The record's newest item notes a flood: behind a command that isn't answered there are at least so many bytes of the client,
+-- which is one more than a command and the room beside it may have.
+pub data Flooded (config : Config) (bytes : ℕ) : List Item → Type 0 where
+  flooded : {past : List Item} (command : Command) → IsPending config command past
+      → bytes ≡ config.command_bytes + FLOOD_ROOM + 1 → bytes ≤ length (held config past)
+      → Flooded config bytes (Floods bytes ∷ past)
 
 -- What came of a link
 
@@ -163,7 +171,8 @@ IsCaused config (Tells number (Refuses NotSupported)) past =
 IsCaused config (Tells number (Refuses PacketsOutOfOrder)) past =
     (want : ℕ) × (got : ℕ) × TookFault config (faults.OutOfOrder want got) past × (number ≡ 1)
 IsCaused config (Tells number (Refuses CommandTooLarge)) past =
-    (length : ℕ) × TookFault config (faults.TooLarge length) past × (number ≡ 1)
+    (((length : ℕ) × TookFault config (faults.TooLarge length) past) ⊎ ((bytes : ℕ) × Flooded config bytes past))
+    × (number ≡ 1)
 -- memory was wanting to a session that goes on
 IsCaused config (Tells number (Refuses OutOfMemory)) past =
     (below : List Item) × (past ≡ Starves true ∷ below) × (is_over below ≡ false) × (number ≡ 1)
@@ -180,6 +189,9 @@ IsCaused config (Closes (OutOfOrder want got)) past =
 IsCaused config (Closes (TooLarge length)) past =
     (below : List Item) × (past ≡ Puts (Tells 1 (Refuses CommandTooLarge)) ∷ below)
     × TookFault config (faults.TooLarge length) below
+-- the flood was noted, and then the client was told
+IsCaused config (Closes (reasons.Flooded bytes)) past =
+    (below : List Item) × (past ≡ Puts (Tells 1 (Refuses CommandTooLarge)) ∷ below) × Flooded config bytes below
 -- the client has a part of the reply that the lost link was giving
 IsCaused config (Closes ResultCut) past =
     (link : ℕ) × (command : Command) × (lost past ≡ Some link) × IsPending config command past
@@ -229,6 +241,7 @@ IsRead config (Comes link (steps.Lost losses.Unasked)) past =
 IsRead config (Comes link said) past = ⊥
 IsRead config (Takes it number) past = (payload : Payload) × Took config payload number (Takes it number ∷ past)
 IsRead config (TakesFault fault) past = TookFault config fault (TakesFault fault ∷ past)
+IsRead config (Floods bytes) past = Flooded config bytes (Floods bytes ∷ past)
 IsRead config _ past = Unit {0}
 
 -- At each place of the record: what was given out has its cause, and all else came, or was read, while the session wasn't

@@ -5,7 +5,7 @@ use Rattle.std.specs.Option.{option_map}
 use Rattle.std.proofs.lemmas.List.Elements.{Contains-append_cases}
 use Rattle.rws_config.specs.declared.config.Config.{Config}
 use Rattle.rws_record.specs.Item.{Item}
-use Rattle.rws_record.specs.Item.Item.{Began, ClientBytes, LinkBytes, ClientGone, LinkLost, Comes, Takes, TakesFault, Puts, Starves}
+use Rattle.rws_record.specs.Item.Item.{Began, ClientBytes, LinkBytes, ClientGone, LinkLost, Comes, Takes, TakesFault, Floods, Puts, Starves}
 use Rattle.rws_record.specs.Item.Put.{Tells, Sends, Drops, Closes}
 use Rattle.rws_record.specs.Values.{links, opens}
 use Rattle.rws_record.specs.Run.{Entry, IsRun, record_of, link_by, last_link}
@@ -60,6 +60,7 @@ opened (LinkLost lost ∷ past) link has = below (opened past link (filtered _ (
 opened (Comes from said ∷ past) link has = below (opened past link has)
 opened (Takes judged number ∷ past) link has = below (opened past link has)
 opened (TakesFault fault ∷ past) link has = below (opened past link has)
+opened (Floods bytes ∷ past) link has = below (opened past link has)
 opened (Starves made ∷ past) link has = below (opened past link has)
 opened (Puts (Tells number tell) ∷ past) link has = below (opened past link has)
 opened (Puts (Sends to purpose) ∷ past) link has = below (opened past link has)

@@ -17,7 +17,7 @@ use Rattle.rws_link.specs.declared.step.LinkStep.{LinkStep}
 use Rattle.rws_link.specs.declared.step.LinkStep.TheVariants as steps
 use Rattle.rws_link.specs.Stepping.{LinkState, LogsIn, Rests, Awaits, IsLost, Exchange, Step, fed, sent, step, settled, behind_part, with_part, replied, replied_by, read_by, is_some_byte}
 use Rattle.rws_record.specs.Item.{Item, Purpose}
-use Rattle.rws_record.specs.Item.Item.{Began, ClientBytes, LinkBytes, ClientGone, LinkLost, Comes, Takes, TakesFault, Puts, Starves}
+use Rattle.rws_record.specs.Item.Item.{Began, ClientBytes, LinkBytes, ClientGone, LinkLost, Comes, Takes, TakesFault, Floods, Puts, Starves}
 use Rattle.rws_record.specs.Item.Put.{Tells, Sends, Drops, Closes}
 use Rattle.rws_record.specs.Values.{asked_on, linked, sent_for, kind_of}
 
@@ -175,6 +175,7 @@ never_logs_in link (ClientGone ∷ past) = never_logs_in link past
 never_logs_in link (LinkLost lost ∷ past) = never_logs_in link past
 never_logs_in link (Takes judged number ∷ past) = never_logs_in link past
 never_logs_in link (TakesFault fault ∷ past) = never_logs_in link past
+never_logs_in link (Floods bytes ∷ past) = never_logs_in link past
 never_logs_in link (Starves made ∷ past) = never_logs_in link past
 never_logs_in link (Puts (Tells number tell) ∷ past) = never_logs_in link past
 never_logs_in link (Puts (Drops given cause) ∷ past) = never_logs_in link past
@@ -263,6 +264,7 @@ was_asked link (ClientGone ∷ past) = was_asked link past
 was_asked link (LinkLost lost ∷ past) = was_asked link past
 was_asked link (Takes judged number ∷ past) = was_asked link past
 was_asked link (TakesFault fault ∷ past) = was_asked link past
+was_asked link (Floods bytes ∷ past) = was_asked link past
 was_asked link (Starves made ∷ past) = was_asked link past
 was_asked link (Puts (Tells number tell) ∷ past) = was_asked link past
 was_asked link (Puts (Drops given cause) ∷ past) = was_asked link past

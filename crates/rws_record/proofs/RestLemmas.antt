@@ -1,6 +1,7 @@
 -- What a record that rests and isn't over says of the bytes that it holds.
-use Rattle.std.proofs.Common.{◌≡◌, ℕ, zero, suc, ◌<◌, false, List, [], ◌∷◌, length, refl, sym, ap, subst, ◌∙◌, arith, inl, inr, Option, Some, None}
+use Rattle.std.proofs.Common.{◌≡◌, ℕ, zero, suc, ◌+◌, ◌<◌, ◌≤◌, false, List, [], ◌∷◌, length, refl, sym, ap, subst, ◌∙◌, arith, inl, inr, Option, Some, None}
 use Rattle.std.specs.Prelude.{◌⊎◌, Contains, slice_index_or}
+use Rattle.std.proofs.lemmas.Bool.{cases_lt, lt-ltb}
 use Rattle.rws_wire.specs.Payloads.{Beginning, first_payload}
 use Rattle.rws_wire.specs.Payloads.Beginning.{Nothing, Whole, Faulty}
 use Rattle.rws_reply.specs.declared.kind.Progress.{Progress}
@@ -11,9 +12,11 @@ use Rattle.rws_link.specs.declared.step.LinkStep.TheVariants as steps
 use Rattle.rws_link.specs.Stepping.{LinkState, LogsIn, Rests, Awaits, IsLost, Exchange, read_by, replied, replied_by, step}
 use Rattle.rws_config.specs.declared.config.Config.{Config}
 use Rattle.rws_config.specs.declared.limits.TheConstants.{SERVER_PAYLOAD}
+use Rattle.rws_record.specs.declared.command.Command.{Command}
 use Rattle.rws_record.specs.Item.{Item}
+use Rattle.rws_record.specs.Item.Item.{Floods}
 use Rattle.rws_record.specs.Values.{awaited, exchange, held, link_held, linked, links, pending, unread, is_over}
-use Rattle.rws_record.specs.Rules.{next, coming, due_send, due_arrival, due_take, taking, ◌or◌}
+use Rattle.rws_record.specs.Rules.{next, coming, due_send, due_flood, flood_limit, due_arrival, due_take, taking, ◌or◌}
 use Rattle.rws_record.proofs.LinkedLemmas.{logs_in, never_logs_in}
 use Rattle.rws_record.proofs.StepLemmas.{neither, rests_with_nothing_due}
 
@@ -67,10 +70,22 @@ no_take Nothing e = refl
 no_take (Whole payload number rest) e = absurd cc
 no_take (Faulty fault) e = absurd cc
 
+no_flood : (config : Config) (past : List Item) (command : Command) → pending past ≡ Some command → due_flood config past ≡ None
+    → length (held config past) ≤ flood_limit config
+no_flood config past command p e =
+    elim (cases_lt (flood_limit config) (length (held config past))) [
+      | inl above ↦
+          let some : Some (Floods (flood_limit config + 1)) ≡ None =
+          rw (p, lt-ltb (flood_limit config) (length (held config past)) above) at e in absurd cc
+      | inr within ↦ within
+    ]
+
 -- what a session that rests and goes on holds
 pub record Rested (config : Config) (past : List Item) : Type 0 where
   -- the pending command needn't be sent
   pub sent : due_send past ≡ None
+  -- behind a pending command the client sent no more than it may
+  pub room : (command : Command) → pending past ≡ Some command → length (held config past) ≤ flood_limit config
   -- where none is pending, what the client sent begins with no whole command and no fault
   pub client : pending past ≡ None → first_payload config.command_bytes 0 (held config past) ≡ Nothing
   -- of an awaited reply no whole payload came, and no fault
@@ -96,10 +111,13 @@ rests_of link (waits {e = x} is f) a = let clash : Some x ≡ None = sym (ap awa
 
 pub rested : (config : Config) (past : List Item) → next config past ≡ None → is_over past ≡ false → Rested config past
 rested config past e n =
-    let all = neither (due_send past) (due_arrival (links past) past or due_take config past) (rests_with_nothing_due config past e n) in
-    let behind = neither (due_arrival (links past) past) (due_take config past) all.1 in
+    let all = neither (due_send past) (due_flood config past or (due_arrival (links past) past or due_take config past))
+    (rests_with_nothing_due config past e n) in
+    let later = neither (due_flood config past) (due_arrival (links past) past or due_take config past) all.1 in
+    let behind = neither (due_arrival (links past) past) (due_take config past) later.1 in
     record {
       sent = all.0;
+      room = λ command p. no_flood config past command p later.0;
       client = λ p.
           let none : taking (first_payload config.command_bytes 0 (held config past)) ≡ None = rw p at behind.1 in
           no_take (first_payload config.command_bytes 0 (held config past)) none;

@@ -1,6 +1,8 @@
 -- How a legal record goes on: what its newest item says of the record below it.
-use Rattle.std.proofs.Common.{◌≡◌, ℕ, suc, Bool, true, false, List, [], ◌∷◌, refl, ap, subst, arith, inl, inr, Option, Some, None}
+use Rattle.std.proofs.Common.{◌≡◌, ℕ, suc, ◌+◌, ◌<◌, Bool, true, false, List, [], ◌∷◌, length, refl, ap, subst, arith, inl, inr, Option, Some, None}
 use Rattle.std.specs.Prelude.{◌⊎◌, Contains, if◌then◌else◌}
+use Rattle.std.specs.Option.{option_map}
+use Rattle.std.proofs.lemmas.Bool.{cases_lt, lt-ltb, le-ltb}
 use Rattle.rws_wire.specs.declared.fault.WireFault.{WireFault}
 use Rattle.rws_wire.specs.Payloads.{Beginning, first_payload}
 use Rattle.rws_wire.specs.Payloads.Beginning.{Nothing, Whole, Faulty}
@@ -10,12 +12,12 @@ use Rattle.rws_link.specs.Stepping.{step}
 use Rattle.rws_config.specs.declared.config.Config.{Config}
 use Rattle.rws_record.specs.declared.command.Command.{Command}
 use Rattle.rws_record.specs.Item.{Item, Put}
-use Rattle.rws_record.specs.Item.Item.{ClientBytes, LinkBytes, ClientGone, LinkLost, Comes, Takes, TakesFault, Puts}
+use Rattle.rws_record.specs.Item.Item.{ClientBytes, LinkBytes, ClientGone, LinkLost, Comes, Takes, TakesFault, Floods, Puts}
 use Rattle.rws_record.specs.Item.Put.{Sends}
 use Rattle.rws_record.specs.Item.Purpose.{Asks}
 use Rattle.rws_record.specs.Judging.{judged}
 use Rattle.rws_record.specs.Values.{opens, held, links, linked, kept_on, pending, sent_on, is_over}
-use Rattle.rws_record.specs.Rules.{next, next_by, owed, due, due_send, due_arrival, due_take, send_by, is_free, coming, take_by, ◌or◌}
+use Rattle.rws_record.specs.Rules.{next, next_by, owed, due, due_send, due_flood, flood_by, flood_limit, due_arrival, due_take, send_by, is_free, coming, take_by, ◌or◌}
 use Rattle.rws_record.proofs.LinkedLemmas.{Says, says, never_logs_in}
 use Rattle.rws_record.specs.Record.{IsInput}
 
@@ -36,6 +38,8 @@ pub data Step (config : Config) (past : List Item) : Item → Type 0 where
   sends : {link : ℕ} {command : Command} → owed past ≡ [] → is_over past ≡ false → pending past ≡ Some command
       → sent_on past ≡ None → kept_on past ≡ Some link → is_free link past ≡ true
       → Step config past (Puts (Sends link (Asks command)))
+  floods : {command : Command} → owed past ≡ [] → is_over past ≡ false → pending past ≡ Some command
+      → flood_limit config < length (held config past) → Step config past (Floods (flood_limit config + 1))
   reads : {item : Item} → owed past ≡ [] → is_over past ≡ false → Due config past item → Step config past item
 
 as_due : {config : Config} {past : List Item} {one other : Item} → one ≡ other → Due config past one → Due config past other
@@ -105,13 +109,30 @@ module _ (config : Config) (past : List Item) (item : Item) where
       let same : Takes (judged payload number) number ≡ item = cc in as_due same (takes p f)
   of_take None (Faulty fault) p f e = let same : TakesFault fault ≡ item = cc in as_due same (takes_fault p f)
 
+  of_flood : (command : Option Command) → owed past ≡ [] → is_over past ≡ false → pending past ≡ command
+      → option_map (λ (bytes : ℕ). Floods bytes) (flood_by command (flood_limit config) (length (held config past))) ≡ Some item
+      → Step config past item
+  of_flood None o n p e = absurd cc
+  of_flood (Some command) o n p e =
+      elim (cases_lt (flood_limit config) (length (held config past))) [
+        | inl above ↦
+            let is : Some (Floods (flood_limit config + 1)) ≡ Some item =
+            rw (lt-ltb (flood_limit config) (length (held config past)) above) at e in
+            let same : Floods (flood_limit config + 1) ≡ item = cc in subst (Step config past) same (floods o n p above)
+        | inr within ↦
+            let none : None ≡ Some item = rw (le-ltb (flood_limit config) (length (held config past)) within) at e in absurd cc
+      ]
+
   of_due : owed past ≡ [] → is_over past ≡ false → due config past ≡ Some item → Step config past item
   of_due o n e =
-      elim (either (due_send past) (due_arrival (links past) past or due_take config past) item e) [
+      elim (either (due_send past) (due_flood config past or (due_arrival (links past) past or due_take config past)) item e) [
         | inl send ↦ of_send (pending past) (sent_on past) (kept_on past) o n refl refl refl send
-        | inr e ↦ elim (either (due_arrival (links past) past) (due_take config past) item e) [
-          | inl arrive ↦ reads o n (of_arrivals (links past) (λ link has. has) arrive)
-          | inr take ↦ reads o n (of_take (pending past) (first_payload config.command_bytes 0 (held config past)) refl refl take)
+        | inr e ↦ elim (either (due_flood config past) (due_arrival (links past) past or due_take config past) item e) [
+          | inl flood ↦ of_flood (pending past) o n refl flood
+          | inr e ↦ elim (either (due_arrival (links past) past) (due_take config past) item e) [
+            | inl arrive ↦ reads o n (of_arrivals (links past) (λ link has. has) arrive)
+            | inr take ↦ reads o n (of_take (pending past) (first_payload config.command_bytes 0 (held config past)) refl refl take)
+          ]
         ]
       ]
 
@@ -151,6 +172,7 @@ due_opens_none (takes_fault p f) = refl
 pub step_opens_none : {config : Config} {past : List Item} {item : Item} → Step config past item → opens item ≡ None
 step_opens_none (pays o) = refl
 step_opens_none (sends o n p s k c) = refl
+step_opens_none (floods o n p above) = refl
 step_opens_none (reads o n due) = due_opens_none due
 
 pub input_opens_none : (item : Item) (past : List Item) → IsInput item past → opens item ≡ None

@@ -11,7 +11,7 @@ use Rattle.rws_record.specs.Record.IsRecord.{begins, steps, hears, starves}
 use Rattle.rws_record.specs.Record.GoesOn.{stays, then as goes_then}
 use Rattle.rws_record.proofs.StepLemmas.{Due, Step, of_next, rests_owing_nothing}
 use Rattle.rws_record.proofs.StepLemmas.Due.{comes, takes, takes_fault}
-use Rattle.rws_record.proofs.StepLemmas.Step.{pays, sends, reads}
+use Rattle.rws_record.proofs.StepLemmas.Step.{pays, sends, floods, reads}
 
 -- No step, and nothing that is heard, is want of memory
 
@@ -24,6 +24,7 @@ pub step_starved : {config : Config} {past : List Item} {item : Item} → Step c
     → is_starved (item ∷ past) ≡ is_starved past
 step_starved (pays o) = refl
 step_starved (sends o n p s k c) = refl
+step_starved (floods o n p above) = refl
 step_starved (reads o n due) = due_starved due
 
 pub input_starved : (past : List Item) (item : Item) → IsInput item past → is_starved (item ∷ past) ≡ is_starved past
@@ -74,6 +75,7 @@ pays_ending {past} (Drops link cause) {others} o (ends soon) =
 step_ending : {config : Config} {past : List Item} {item : Item} → Step config past item → Ending past → Ending (item ∷ past)
 step_ending (pays {put = put} o) ending = pays_ending put o ending
 step_ending (sends o n p s k c) ending = goes_no_further o n ending
+step_ending (floods o n p above) ending = goes_no_further o n ending
 step_ending (reads o n due) ending = goes_no_further o n ending
 
 want_ending : (past : List Item) (made over : Bool) → is_over past ≡ over → Ending (Starves made ∷ past)

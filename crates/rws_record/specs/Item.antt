@@ -52,9 +52,11 @@ pub data Item : Type 0 where
   -- what came of a link: a payload of the reply that it owes, as the server sent it, or that it is lost
   Comes : (link : ℕ) → LinkStep → Item
   -- the session's own steps: it takes up the client's next command, whose reply begins with this number, or the fault of
-  -- the client's packets; and it gives something out
+  -- the client's packets; it notes that the client sent on, behind a command that isn't answered, until so many bytes were
+  -- held, which is one more than it may; and it gives something out
   Takes : Judged → (number : ℕ) → Item
   TakesFault : WireFault → Item
+  Floods : (held : ℕ) → Item
   Puts : Put → Item
   -- memory was wanting, in place of what would have come next; or for the session itself, which then wasn't made
   Starves : (made : Bool) → Item

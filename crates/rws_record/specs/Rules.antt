@@ -2,7 +2,8 @@
 -- goes on by `next` until it rests, and then by what comes from outside.
 --
 -- Rules come in two levels: a function of plain values, and one line that fills in the values of a record.
-use Rattle.std.specs.Prelude.{ℕ, Bool, true, false, not, ◌&&◌, ◌==◌, List, [], ◌∷◌, ◌++◌, map, drop, Option, Some, None, if◌then◌else◌}
+use Rattle.std.specs.Prelude.{ℕ, ◌+◌, nat_lt, Bool, true, false, not, ◌&&◌, ◌==◌, List, [], ◌∷◌, ◌++◌, length, map, drop, Option, Some, None, if◌then◌else◌}
+use Rattle.std.specs.Option.{option_map}
 use Rattle.rws_wire.specs.Payloads.{Beginning, first_payload}
 use Rattle.rws_wire.specs.Payloads.Beginning.{Nothing, Whole, Faulty}
 use Rattle.rws_wire.specs.declared.fault.WireFault.{WireFault}
@@ -21,10 +22,11 @@ use Rattle.rws_link.specs.declared.step.LinkStep.{LinkStep}
 use Rattle.rws_link.specs.declared.step.LinkStep.TheVariants as steps
 use Rattle.rws_link.specs.Stepping.{LinkState, LogsIn, Rests, Awaits, IsLost, step}
 use Rattle.rws_config.specs.declared.config.Config.{Config}
+use Rattle.rws_config.specs.declared.limits.TheConstants.{FLOOD_ROOM}
 use Rattle.rws_record.specs.declared.command.Command.{Command}
 use Rattle.rws_record.specs.declared.proxy_error.ProxyError.TheVariants.{PacketsOutOfOrder, CommandTooLarge, OutOfMemory}
 use Rattle.rws_record.specs.Item.{Item, Purpose, Judged, Put}
-use Rattle.rws_record.specs.Item.Item.{Began, ClientBytes, LinkBytes, ClientGone, LinkLost, Comes, Takes, TakesFault, Puts, Starves}
+use Rattle.rws_record.specs.Item.Item.{Began, ClientBytes, LinkBytes, ClientGone, LinkLost, Comes, Takes, TakesFault, Floods, Puts, Starves}
 use Rattle.rws_record.specs.Item.Judged.{Leaves, Pings, IsRefused, Serves}
 use Rattle.rws_record.specs.Item.Put.{Tells, Sends, Drops, Closes}
 use Rattle.rws_record.specs.Item.Tell.{Passes, Owns, Refuses}
@@ -127,6 +129,10 @@ after_fault (faults.OutOfOrder want got) =
     Tells 1 (Refuses PacketsOutOfOrder) ∷ Closes (reasons.OutOfOrder want got) ∷ []
 after_fault (faults.TooLarge length) = Tells 1 (Refuses CommandTooLarge) ∷ Closes (reasons.TooLarge length) ∷ []
 
+-- The client sent on too far behind a command that isn't answered. It too is told in a packet of number 1.
+abbrev pub after_flood : ℕ → List Put
+after_flood held = Tells 1 (Refuses CommandTooLarge) ∷ Closes (reasons.Flooded held) ∷ []
+
 abbrev pub unasked : ℕ → Bool → List Put
 unasked link true = Drops link Unasked ∷ []
 unasked link false = []
@@ -181,6 +187,7 @@ response (LinkLost link) past = after_loss link past
 response (Comes link said) past = after_coming link said (asked_on link past) (reply_number past)
 response (Takes judged number) past = after_command judged number
 response (TakesFault fault) past = after_fault fault
+response (Floods held) past = after_flood held
 response (Starves made) past = after_want (is_over past) made (farewells past)
 response (Puts put) past = []
 
@@ -216,6 +223,19 @@ send_by _ _ _ is_free = None
 abbrev pub due_send : List Item → Option Item
 due_send past = send_by (pending past) (sent_on past) (kept_on past) (λ link. is_free link past)
 
+-- how many bytes a client may have sent that aren't taken up, while a command of its is pending
+abbrev pub flood_limit : Config → ℕ
+flood_limit config = config.command_bytes + FLOOD_ROOM
+
+-- The number of bytes that is too many, where so many are held or more. It is the first number above the limit, and not how
+-- many came: so it is the same however they were cut.
+abbrev pub flood_by : Option Command → (limit held : ℕ) → Option ℕ
+flood_by (Some command) limit held = if nat_lt limit held then Some (limit + 1) else None
+flood_by None limit held = None
+
+abbrev pub due_flood : Config → List Item → Option Item
+due_flood config past = option_map (λ bytes. Floods bytes) (flood_by (pending past) (flood_limit config) (length (held config past)))
+
 -- what comes of a link that says this
 abbrev pub coming : ℕ → LinkStep → Option Item
 coming link steps.Idle = None
@@ -246,8 +266,10 @@ take_by (Some command) beginning = None
 abbrev pub due_take : Config → List Item → Option Item
 due_take config past = take_by (pending past) (first_payload config.command_bytes 0 (held config past))
 
+-- A command that was just taken up is sent before the bytes behind it are counted, so one piece of bytes and two give the
+-- same.
 abbrev pub due : Config → List Item → Option Item
-due config past = due_send past or (due_arrival (links past) past or due_take config past)
+due config past = due_send past or (due_flood config past or (due_arrival (links past) past or due_take config past))
 
 abbrev pub next_by : List Put → Bool → Option Item → Option Item
 next_by (put ∷ others) over due = Some (Puts put)

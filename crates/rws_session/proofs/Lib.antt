@@ -11,3 +11,5 @@ pub mod TryLemmas
 pub mod TurnLemmas
 -- and what lasts where memory was wanting
 pub mod BreakLemmas
+-- what it leaves
+pub mod BoundLemmas

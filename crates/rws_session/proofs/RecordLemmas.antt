@@ -5,7 +5,7 @@ use Rattle.rws_wire.specs.declared.fault.WireFault.{WireFault}
 use Rattle.rws_wire.specs.declared.fault.WireFault.TheVariants as faults
 use Rattle.rws_config.specs.declared.config.Config.{Config}
 use Rattle.rws_record.specs.Item.{Item, Put}
-use Rattle.rws_record.specs.Item.Item.{Began, ClientBytes, LinkBytes, ClientGone, LinkLost, Comes, Takes, TakesFault, Puts, Starves}
+use Rattle.rws_record.specs.Item.Item.{Began, ClientBytes, LinkBytes, ClientGone, LinkLost, Comes, Takes, TakesFault, Floods, Puts, Starves}
 use Rattle.rws_record.specs.Item.Put.{Tells, Sends, Drops, Closes}
 use Rattle.rws_record.specs.Values.{opens, links, contains, without, client_fault, is_over}
 use Rattle.rws_record.specs.Rules.{next, owed, follow, after_fault}
@@ -15,7 +15,7 @@ use Rattle.rws_record.proofs.StepLemmas.{Due, Step, of_next, rests_owing_nothing
 use Rattle.rws_record.proofs.WithoutLemmas.{without_has_less, without_keeps_out}
 use Rattle.rws_record.proofs.WantLemmas.{closes_soon, closes_behind, input_starved, step_starved, unstarved}
 use Rattle.rws_record.proofs.StepLemmas.Due.{comes, takes, takes_fault}
-use Rattle.rws_record.proofs.StepLemmas.Step.{pays, sends, reads}
+use Rattle.rws_record.proofs.StepLemmas.Step.{pays, sends, floods, reads}
 use Rattle.rws_session.specs.Table.{AreDistinct}
 
 -- A list without one of its links
@@ -44,6 +44,7 @@ leaves past (LinkLost link) e = but_one link refl
 leaves past (Comes link said) e = all refl
 leaves past (Takes judgement number) e = all refl
 leaves past (TakesFault fault) e = all refl
+leaves past (Floods bytes) e = all refl
 leaves past (Starves made) e = all refl
 leaves past (Puts (Tells number tell)) e = all refl
 leaves past (Puts (Sends link purpose)) e = all refl
@@ -107,6 +108,7 @@ step_readable : {config : Config} {past : List Item} {item : Item} → Step conf
     → IsReadable (item ∷ past)
 step_readable (pays {put = put} o) readable = pays_readable put o readable
 step_readable (sends o n p s k c) readable = sound (goes_on o n readable)
+step_readable (floods o n p above) readable = ends refl
 step_readable (reads o n due) readable = due_readable due (goes_on o n readable)
 
 input_readable : (past : List Item) (item : Item) → IsInput item past → client_fault past ≡ None → IsReadable (item ∷ past)

@@ -2,18 +2,18 @@
 use Rattle.std.proofs.Common.{◌≡◌, ℕ, Bool, true, false, not, List, [], ◌∷◌, ◌++◌, map, refl, sym, ap, subst, ◌∙◌, Option, Some, None, Result, Ok, Err, IfOk, eq-eqb, ne_eqb, eqb-true}
 use Rattle.std.proofs.lemmas.Bool.{eqb-false}
 use Rattle.std.proofs.lemmas.Result.{IfOk-weaker}
-use Rattle.std.specs.Prelude.{◌==◌, ◌||◌, ◌&&◌, ◌↔◌, OnOk, if◌then◌else◌}
+use Rattle.std.specs.Prelude.{◌==◌, ◌||◌, ◌&&◌, ◌↔◌, is_some, OnOk, if◌then◌else◌}
 use Rattle.std.specs.List.{list_any}
 use Rattle.rws_link.specs.declared.step.LinkStep.{LinkStep}
 use Rattle.rws_link.specs.declared.step.LinkStep.TheVariants as steps
 use Rattle.rws_link.specs.Stepping.{LinkState, LogsIn, Rests, Awaits, IsLost, fed, sent, step}
-use Rattle.rws_link.specs.Linking.{IsReady, Linking, Takes, kept}
+use Rattle.rws_link.specs.Linking.{IsReady, Linking, Takes, is_awaiting, kept}
 use Rattle.rws_record.specs.declared.command.Command.{Command}
 use Rattle.rws_record.specs.Item.{Item}
 use Rattle.rws_record.specs.Item.Item.{LinkBytes, Comes, Puts}
 use Rattle.rws_record.specs.Item.Put.{Sends}
 use Rattle.rws_record.specs.Item.Purpose.{Asks}
-use Rattle.rws_record.specs.Values.{contains, linked, server_of}
+use Rattle.rws_record.specs.Values.{awaited, contains, exchange, linked, server_of}
 use Rattle.rws_record.specs.Rules.{coming, due_arrival, is_ready}
 use Rattle.rws_record.proofs.LinkedLemmas.{idle_stays, never_logs_in}
 use Rattle.rws_session.specs.declared.links.NumberedLink.{NumberedLink}
@@ -263,3 +263,29 @@ has_is past number (link ∷ others) = rw (has_is past number others) (by_test (
     by_test : (test : Bool) → (test || contains number others) ≡ (if test then true else contains number others)
     by_test true = refl
     by_test false = refl
+
+-- it is there, and a reply is awaited on it
+pub awaits_is : (past : List Item) (number : ℕ) (links : List ℕ)
+    → list_any (λ (link : NumberedLink). link.number == number && is_awaiting link.link) (map (link_of past) links)
+    ≡ (contains number links && is_some (exchange number past))
+awaits_is past number [] = refl
+awaits_is past number (link ∷ others) = rw (awaits_is past number others) (by_test (link == number) refl)
+  where
+    awaits_too : (state : LinkState) → is_awaiting (kept state) ≡ is_some (awaited state)
+    awaits_too (LogsIn handshake unread) = refl
+    awaits_too Rests = refl
+    awaits_too (Awaits e unread) = refl
+    awaits_too (IsLost cause) = refl
+
+    here : (is behind : Bool) → (is || (behind && is)) ≡ is
+    here true behind = refl
+    here false true = refl
+    here false false = refl
+
+    by_test : (test : Bool) → (link == number) ≡ test
+        → ((test && is_awaiting (kept (linked link past))) || (contains number others && is_some (exchange number past)))
+        ≡ ((if test then true else contains number others) && is_some (exchange number past))
+    by_test true t =
+        let e : link ≡ number = eqb-true link number t in
+        rw (e, awaits_too (linked number past)) (here (is_some (exchange number past)) (contains number others))
+    by_test false t = refl

@@ -1,5 +1,5 @@
 -- Each kind of step, where it was tried on a session that keeps what it is to keep: it makes the item that is due.
-use Rattle.std.proofs.Common.{◌≡◌, ℕ, Bool, true, false, List, [], ◌∷◌, ◌++◌, map, refl, sym, ap, subst, ◌∙◌, inl, inr, Option, Some, None, Result, Ok, Err, IfOk}
+use Rattle.std.proofs.Common.{◌≡◌, ℕ, ◌+◌, length, Bool, true, false, List, [], ◌∷◌, ◌++◌, map, refl, sym, ap, subst, ◌∙◌, inl, inr, Option, Some, None, Result, Ok, Err, IfOk}
 use Rattle.std.specs.Prelude.{◌⊎◌, if◌then◌else◌, is_some, IfSome}
 use Rattle.std.proofs.lemmas.List.{append-nil}
 use Rattle.rws_wire.specs.Deframing.{Deframing, HandsOut, next_of, unless_stopped}
@@ -15,16 +15,17 @@ use Rattle.rws_link.specs.declared.step.LinkStep.TheVariants as steps
 use Rattle.rws_link.specs.Stepping.{LinkState, is_some_byte, step}
 use Rattle.rws_board.specs.declared.action.Action.{Action}
 use Rattle.rws_config.specs.declared.config.Config.{Config}
+use Rattle.rws_config.specs.declared.limits.TheConstants.{FLOOD_ROOM}
 use Rattle.rws_record.specs.declared.command.Command.{Command}
 use Rattle.rws_record.specs.Item.{Item, Judged, Purpose, Put}
-use Rattle.rws_record.specs.Item.Item.{Comes, Puts, Takes, TakesFault}
+use Rattle.rws_record.specs.Item.Item.{Comes, Floods, Puts, Takes, TakesFault}
 use Rattle.rws_record.specs.Item.Judged.{Leaves, Pings, IsRefused, Serves}
 use Rattle.rws_record.specs.Item.Put.{Tells, Sends, Drops, Closes}
 use Rattle.rws_record.specs.Item.Tell.{Passes, Owns, Refuses}
 use Rattle.rws_record.specs.Item.Purpose.{Asks}
 use Rattle.rws_record.specs.Judging.{judged}
 use Rattle.rws_record.specs.Values.{asked_on, client_fault, held, is_over, kept_on, linked, links, pending, reply_number, sent_on}
-use Rattle.rws_record.specs.Rules.{after_answer, after_coming, after_command, after_fault, after_part, coming, due_arrival, due_send, due_take, form_of, is_free, owed, send_by, take_by}
+use Rattle.rws_record.specs.Rules.{after_answer, after_coming, after_command, after_fault, after_flood, after_part, coming, due_arrival, due_flood, flood_by, flood_limit, due_send, due_take, form_of, is_free, owed, send_by, take_by}
 use Rattle.rws_record.specs.Outputs.{outs_for, outs_of}
 use Rattle.rws_record.proofs.LinkedLemmas.{Says, awaits_asked, never_logs_in, says}
 use Rattle.rws_record.proofs.LinkedLemmas.Says.{part, garbled, wrong, again}
@@ -170,6 +171,29 @@ pub sent_or_not : (config : Config) (past : List Item) (link : ℕ) (old new : K
     → IfOk result (λ went. Tries config (due_send past) past went old new)
 sent_or_not config past link old new (Ok went) is o some sends links_are = sent config past link went old new is o some sends links_are
 sent_or_not config past link old new (Err error) is o some sends links_are = tt
+
+-- A flood behind it
+
+pub flooded_nothing : (config : Config) (past : List Item) (k : Kept) → Is config k past
+    → flood_by k.state.pending (k.state.client.limit + FLOOD_ROOM) (length k.state.client.held) ≡ None → due_flood config past ≡ None
+flooded_nothing config past k is none =
+    let none : flood_by (pending past) (flood_limit config) (length (held config past)) ≡ None = rw is.mirrors at none in
+    rw none refl
+
+pub flooded : (config : Config) (past : List Item) (old new : Kept) (bytes : ℕ) → Is config old past → owed past ≡ []
+    → flood_by old.state.pending (old.state.client.limit + FLOOD_ROOM) (length old.state.client.held) ≡ Some bytes
+    → new ≡ record old { state = owes (after_flood bytes) old.state } → Went config (due_flood config past) past old new
+flooded config past old new bytes is o some now =
+    let some : flood_by (pending past) (flood_limit config) (length (held config past)) ≡ Some bytes = rw is.mirrors at some in
+    record {
+      item = Floods bytes;
+      is_due = rw some refl;
+      made = record {
+        number = ap (λ (k : Kept). k.number) now;
+        outs = ap (λ (k : Kept). k.outs) now ∙ sym (append-nil old.outs);
+        state = ap (λ (k : Kept). k.state) now ∙ ap (owes (after_flood bytes)) is.mirrors ∙ rw o refl;
+      };
+    }
 
 -- What came on the links
 

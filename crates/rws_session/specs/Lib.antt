@@ -3,5 +3,6 @@ pub mod State
 pub mod Kept
 pub mod Table
 pub mod Steps
+pub mod Bounds
 -- a turn
 pub mod Turning

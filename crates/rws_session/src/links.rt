@@ -2,11 +2,11 @@
 //!
 //! The table is the list of them in the order in which they were opened, which is that of their numbers. What a link is and
 //! does is said by `rws_link`.
-ghost use Rattle.std.specs.Prelude.{◌≡◌, ◌==◌, ◌∷◌, ◌++◌, [], List, ℕ, IfOk, OnErr, OnOk, MatchOption, map, if◌then◌else◌};
+ghost use Rattle.std.specs.Prelude.{◌≡◌, ◌==◌, ◌&&◌, ◌∷◌, ◌++◌, [], List, ℕ, IfOk, OnErr, OnOk, MatchOption, map, if◌then◌else◌};
 ghost use Rattle.std.specs.List.{list_any};
 ghost use Rattle.rws_wire.specs.Packets.{spelling};
 ghost use Rattle.rws_link.specs.Stepping.{Rests};
-ghost use Rattle.rws_link.specs.Linking.{kept};
+ghost use Rattle.rws_link.specs.Linking.{is_awaiting, kept};
 ghost use Rattle.rws_record.specs.Item.{Item};
 ghost use Rattle.rws_record.specs.Item.Item.{LinkBytes};
 ghost use Rattle.rws_session.specs.State.{link_of, number_of};
@@ -68,6 +68,15 @@ impl LinkTable {
         ensures { result ≡ list_any (λ link. link.number == number) self.now }
     {
         self.links.iter().any(|link| link.number == number)
+    }
+
+    /// The table has a link of this number, and a reply is awaited there.
+    pub(crate) fn awaits(&self, number: u64) -> bool
+        ensures { result ≡ list_any (λ link. link.number == number && is_awaiting link.link) self.now }
+    {
+        self.links
+            .iter()
+            .any(|link| link.number == number && link.link.is_awaiting())
     }
 
     /// Bytes came on a link.

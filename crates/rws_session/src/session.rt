@@ -1,8 +1,9 @@
 //! A session, and what it keeps of its record.
 //!
 //! Between any two steps its state is that of its record (`state_of` of specs/State.antt), also while outputs are owed.
-ghost use Rattle.std.specs.Prelude.{◌≡◌, ◌∷◌, List, [], Some, None, IfOk, OnOk, MatchOption, OnErr, ◌==◌};
+ghost use Rattle.std.specs.Prelude.{◌≡◌, ◌∷◌, List, [], Some, None, IfOk, OnOk, MatchOption, OnErr, ◌==◌, length, is_some, ◌&&◌};
 ghost use Rattle.std.specs.List.{list_any};
+ghost use Rattle.rws_link.specs.Linking.{is_awaiting};
 ghost use Rattle.rws_session.specs.State.{farewell_packet};
 
 mod giving;
@@ -84,7 +85,9 @@ impl Session {
     ghost use Rattle.rws_config.specs.declared.config.Config.{Config};
     ghost use Rattle.rws_record.specs.Item.{Item};
     ghost use Rattle.rws_record.specs.Item.Item.{Began};
-    ghost use Rattle.rws_record.specs.Values.{contains, is_over, links};
+    ghost use Rattle.rws_config.specs.Allowed.{IsAllowed};
+    ghost use Rattle.rws_record.specs.Values.{contains, exchange, held, is_over, links};
+    ghost use Rattle.rws_session.specs.Bounds.{IsBounded};
     ghost use Rattle.rws_session.specs.Kept.{Is, Kept, Stands};
     ghost use Rattle.rws_session.specs.Kept.{numbers};
     ghost use Rattle.rws_session.specs.Turning.{Breaks, Turns, heard};
@@ -121,10 +124,15 @@ impl Session {
     /// fetched. `Err` is want of memory; a turn of 2^64 steps would end so too, which nobody lives to see.
     pub fn turn(&mut self, input: SessionInput) -> Result<(), AllocError>
         requires { self.old.outs ≡ [] }
-        ensures ok { (config : Config) (past : List Item) → Stands config self.old past
+        ensures turns { (config : Config) (past : List Item) → Stands config self.old past
             → OnOk result (Turns config (heard input past) past self.old self.new) }
+
         ensures err { (config : Config) (past : List Item) → Stands config self.old past
             → OnErr result (Breaks config (heard input past) past self.old self.new) }
+
+        // What came and isn't answered is bounded, whatever a client or a server sends.
+        ensures bounded { (config : Config) (past : List Item) → Stands config self.old past → IsAllowed config
+            → OnOk result (IsBounded config self.new) }
     {
         if self.hear(input)? {
             return self.settle();
@@ -183,6 +191,29 @@ impl Session {
         ensures { result ≡ list_any (λ link. link.number == number) self.now.state.links }
     {
         self.links.has(number)
+    }
+
+    /// The session has this link, and something was sent on it whose reply isn't whole.
+    pub fn awaits(&self, link: u64) -> bool
+        ensures { (config : Config) (past : List Item) → Stands config self.now past
+            → result ≡ (contains link (links past) && is_some (exchange link past)) }
+    {
+        self.is_owed_by(link)
+    }
+
+    /// The same, said of what is kept.
+    fn is_owed_by(&self, number: u64) -> bool
+        ensures { result ≡ list_any (λ link. link.number == number && is_awaiting link.link) self.now.state.links }
+    {
+        self.links.awaits(number)
+    }
+
+    /// How many bytes of the client are held that aren't taken up, packet headers included. Those of a pending command are
+    /// none of them.
+    pub fn unanswered(&self) -> u64
+        ensures { (config : Config) (past : List Item) → Stands config self.now past → result ≡ length (held config past) }
+    {
+        self.client.held()
     }
 
     /// The session was closed, or its client is gone.

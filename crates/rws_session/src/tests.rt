@@ -1,10 +1,10 @@
-//! One session from its first command to its end, with ample memory.
+//! Sessions from their first command to their end, with ample memory.
 
 ghost use Rattle.std.specs.Prelude.{◌≡◌, [], OnOk};
 
 use super::*;
 use rws_board::Action;
-use rws_config::built_in;
+use rws_config::{COMMAND_BYTES, FLOOD_ROOM, built_in};
 use rws_wire::Text;
 use std::alloc::AllocError;
 use std::test::Fail;
@@ -73,6 +73,7 @@ fn session(rt: HostRuntime) -> Result<(), Fail> {
         assert_eq!(rt; sent.as_slice(), to_link);
         assert!(rt; session.has_link(1));
     }
+    assert!(rt; session.awaits(1) && !session.awaits(2));
     let bytes = Text::from_slice(rt.alloc(), &RESULT[5..])?;
     session.turn(SessionInput::Link { link: 1, bytes })?;
     let count = fetch(
@@ -82,5 +83,38 @@ fn session(rt: HostRuntime) -> Result<(), Fail> {
     )?;
     assert_eq!(rt; count, 7);
     assert!(rt; session.is_over() && !session.has_link(1));
+    Ok(())
+}
+
+/// A command, and what the client gets for too many bytes behind it.
+const COMMAND: &[u8] = b"\x02\0\0\0\x03x";
+
+const TOO_LARGE: &[u8] = b"\x1a\0\0\x01\xff\x81\x04#08S01command too large";
+
+#[test]
+fn floods(rt: HostRuntime) -> Result<(), Fail> {
+    let mut config = built_in(rt.alloc())?;
+    config.command_bytes = COMMAND_BYTES.least;
+    let mut session = Session::begin(rt.alloc(), 7, 0, 1, &config)?;
+    let command = Text::from_slice(rt.alloc(), COMMAND)?;
+    session.turn(SessionInput::Client(command))?;
+    fetch(
+        &mut session,
+        &mut Vec::new(rt.alloc()),
+        &mut Vec::new(rt.alloc()),
+    )?;
+    let most = COMMAND_BYTES.least + FLOOD_ROOM;
+    let behind = vec![in rt.alloc(); 0; most as usize]?;
+    session.turn(SessionInput::Client(Text::new(behind)))?;
+    let mut told = Vec::new(rt.alloc());
+    let mut sent = Vec::new(rt.alloc());
+    assert_eq!(rt; fetch(&mut session, &mut told, &mut sent)?, 0);
+    assert!(rt; session.unanswered() == most && session.awaits(1));
+    let one = Text::from_slice(rt.alloc(), b"\0")?;
+    session.turn(SessionInput::Client(one))?;
+    // 1153, the close, and the drop of the link
+    assert_eq!(rt; fetch(&mut session, &mut told, &mut sent)?, 3);
+    assert_eq!(rt; told.as_slice(), TOO_LARGE);
+    assert!(rt; session.is_over() && !session.awaits(1));
     Ok(())
 }

@@ -10,4 +10,5 @@ pub mod GatheringLemmas
 pub mod DeframerLemmas
 -- what bytes begin with, and whole streams
 pub mod BeginningLemmas
+pub mod LengthLemmas
 pub mod StreamLemmas

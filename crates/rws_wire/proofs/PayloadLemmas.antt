@@ -23,7 +23,7 @@ same_continued (Bad fault) one other number before bytes same = refl
 same_continued (More size) one other number before bytes same = same size (before ++ take size (drop 4 bytes))
 same_continued (Last size) one other number before bytes same = refl
 
-length-behind : (size : ℕ) (bytes : List ℕ) → length (drop size (drop 4 bytes)) ≤ length bytes - 4
+pub length-behind : (size : ℕ) (bytes : List ℕ) → length (drop size (drop 4 bytes)) ≤ length bytes - 4
 length-behind size bytes = omega (arith, length-drop size (drop 4 bytes), length-drop 4 bytes)
 
 -- more than as many packets as bytes change nothing
@@ -166,11 +166,11 @@ unfolding full_packet
 full_packet-lt = lit< tt
 
 -- how many full packets there are
-count_none : (n m : ℕ) → 0 < m → n / m ≡ 0 → n < m
+pub count_none : (n m : ℕ) → 0 < m → n / m ≡ 0 → n < m
 count_none n m pos none =
     elim (cases_lt n m) [ inl lt ↦ lt | inr le ↦ absurd (omega (arith, div-eq-sub-div {m = m} {n = n} pos le)) ]
 
-count_more : (n m k : ℕ) → 0 < m → n / m ≡ suc k → (m ≤ n) × ((n - m) / m ≡ k)
+pub count_more : (n m k : ℕ) → 0 < m → n / m ≡ suc k → (m ≤ n) × ((n - m) / m ≡ k)
 count_more n m k pos more =
     elim (cases_lt n m) [
       | inl lt ↦ absurd (omega (arith, div-eq_of_lt {n = n} {m = m} lt))

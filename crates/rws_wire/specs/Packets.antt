@@ -1,6 +1,6 @@
 -- How a payload is spelled on the wire ("Standard packet"): packets of 0xFFFFFF bytes and one last shorter one,
 -- which may be empty, each behind a header of its length and its number. The numbers count on modulo 256.
-use Rattle.std.specs.Prelude.{ℕ, zero, suc, ◌+◌, ◌/◌, ◌%◌, List, [], ◌∷◌, ◌++◌, length, take, drop}
+use Rattle.std.specs.Prelude.{ℕ, zero, suc, ◌+◌, ◌*◌, ◌/◌, ◌%◌, List, [], ◌∷◌, ◌++◌, length, take, drop}
 use Rattle.rws_wire.specs.Numbers.{bytes_of}
 
 -- the bytes of a packet behind which its payload goes on
@@ -27,6 +27,10 @@ packets (suc full) number payload =
 -- the one spelling of a payload whose first packet has this number
 unfoldable pub spelling : ℕ → List ℕ → List ℕ
 spelling number payload = packets (length payload / full_packet) number payload
+
+-- how many bytes the spelling of a payload of so many bytes has: those, and a header of four for each of its packets
+abbrev pub spelled_length : ℕ → ℕ
+spelled_length bytes = bytes + 4 * (bytes / full_packet + 1)
 
 -- the number behind its last packet
 unfoldable pub number_behind : ℕ → List ℕ → ℕ

@@ -65,6 +65,13 @@ impl Deframer {
         }
     }
 
+    /// How many bytes a payload may have.
+    pub fn limit(&self) -> u64
+        ensures { result ≡ self.now.limit }
+    {
+        self.limit
+    }
+
     /// How many bytes were fed and not handed out in payloads, packet headers included.
     pub fn held(&self) -> u64
         ensures { result ≡ length self.now.held }

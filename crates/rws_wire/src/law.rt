@@ -1,7 +1,8 @@
 //! Laws on what bytes begin with and on whole streams. The functions compute nothing: their contracts are the theorems.
-ghost use Rattle.std.specs.Prelude.{◌≡◌, ◌++◌, ℕ, List};
+ghost use Rattle.std.specs.Prelude.{◌≡◌, ◌++◌, ◌<◌, ℕ, List, length};
 ghost use Rattle.rws_wire.specs.Beginnings.{BeginningsAreRead};
-ghost use Rattle.rws_wire.specs.Payloads.{Whole, Faulty, first_payload};
+ghost use Rattle.rws_wire.specs.Packets.{spelled_length, spelling};
+ghost use Rattle.rws_wire.specs.Payloads.{Nothing, Whole, Faulty, first_payload};
 ghost use Rattle.rws_wire.specs.Streams.{StreamsAreRead, StreamsAreKept};
 ghost use Rattle.rws_wire.specs.declared.fault.WireFault.{WireFault};
 
@@ -18,6 +19,12 @@ pub fn later_bytes_change_nothing()
     ensures fault { (limit first : ℕ) (bytes more : List ℕ) (fault : WireFault) → first_payload limit first bytes ≡ Faulty fault
         → first_payload limit first (bytes ++ more) ≡ Faulty fault }
     ensures stream { StreamsAreKept }
+{}
+
+/// Bytes that begin with no whole payload and no fault are fewer than the longest payload takes on the wire.
+pub fn unread_bytes_are_bounded()
+    ensures unread { (limit first : ℕ) (bytes : List ℕ) → first_payload limit first bytes ≡ Nothing → length bytes < spelled_length limit }
+    ensures spelled { (first : ℕ) (payload : List ℕ) → length (spelling first payload) ≡ spelled_length (length payload) }
 {}
 
 /// Payloads are read one after the other exactly where each is within the limit and the bytes are their spellings, one

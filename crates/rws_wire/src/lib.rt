@@ -22,7 +22,9 @@ pub use deframer::Deframer;
 pub use drop_cause::DropCause;
 pub use fault::{NextError, WireFault};
 pub use framing::frame;
-pub use law::{beginnings_are_read, later_bytes_change_nothing, streams_are_read};
+pub use law::{
+    beginnings_are_read, later_bytes_change_nothing, streams_are_read, unread_bytes_are_bounded,
+};
 pub use lenenc::{LenencFault, put_lenenc, read_lenenc, split_lenenc};
 pub use mode::Mode;
 pub use payload::Payload;

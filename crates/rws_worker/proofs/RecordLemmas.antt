@@ -3,7 +3,7 @@ use Rattle.std.proofs.Common.{◌≡◌, ◌==◌, ℕ, ◌<◌, Bool, true, fal
 use Rattle.std.proofs.lemmas.Bool.{ne_eqb, eq-eqb}
 use Rattle.rws_config.specs.declared.config.Config.{Config}
 use Rattle.rws_record.specs.Item.{Item}
-use Rattle.rws_record.specs.Item.Item.{Began, ClientBytes, LinkBytes, ClientGone, LinkLost, Comes, Takes, TakesFault, Puts, Starves}
+use Rattle.rws_record.specs.Item.Item.{Began, ClientBytes, LinkBytes, ClientGone, LinkLost, Comes, Takes, TakesFault, Floods, Puts, Starves}
 use Rattle.rws_record.specs.Item.Put.{Tells, Sends, Drops, Closes}
 use Rattle.rws_record.specs.Values.{opens, links, contains, without}
 use Rattle.rws_record.specs.Run.{Entry, IsRun, record_of, owner, last_link}
@@ -94,6 +94,7 @@ still_has (LinkLost lost) past link none e = without_has lost link (links past) 
 still_has (Comes from said) past link none e = e
 still_has (Takes judged number) past link none e = e
 still_has (TakesFault fault) past link none e = e
+still_has (Floods bytes) past link none e = e
 still_has (Starves made) past link none e = e
 still_has (Puts (Tells number tell)) past link none e = e
 still_has (Puts (Sends to purpose)) past link none e = e

@@ -1,16 +1,17 @@
 //! The steps of a session: each kind is tried, and goes where it is due.
 //!
-//! What is owed comes first. Where nothing is owed and the session isn't over, the pending command is sent, then what came on
-//! the links is read, and then the client's next command is taken up.
-ghost use Rattle.std.specs.Prelude.{◌≡◌, ◌∷◌, ◌++◌, ℕ, List, [], false, map, Some, None, IfOk, OnErr, OnOk, IfSome, MatchOption, ◌&&◌, is_some, is_none};
+//! What is owed comes first. Where nothing is owed and the session isn't over, the pending command is sent, then a flood behind
+//! it is refused, then what came on the links is read, and then the client's next command is taken up.
+ghost use Rattle.std.specs.Prelude.{◌≡◌, ◌+◌, ◌∷◌, ◌++◌, ℕ, length, List, [], false, map, Some, None, IfOk, OnErr, OnOk, IfSome, MatchOption, ◌&&◌, is_some, is_none};
 ghost use Rattle.rws_wire.specs.Deframing.{HandsOut};
 ghost use Rattle.rws_config.specs.declared.config.Config.{Config};
+ghost use Rattle.rws_config.specs.declared.limits.TheConstants.{FLOOD_ROOM};
 ghost use Rattle.rws_record.specs.Item.{Item};
 ghost use Rattle.rws_record.specs.Item.Put.{Tells, Closes};
 ghost use Rattle.rws_record.specs.Item.Tell.{Refuses};
 ghost use Rattle.rws_record.specs.Judging.{judged};
 ghost use Rattle.rws_record.specs.Values.{is_over, links};
-ghost use Rattle.rws_record.specs.Rules.{after_fault, drop_cause, due_arrival, due_send, due_take, form_of, next, owed, unasked};
+ghost use Rattle.rws_record.specs.Rules.{after_fault, drop_cause, due_arrival, due_flood, flood_by, due_send, due_take, form_of, next, owed, unasked};
 ghost use Rattle.rws_session.specs.State.{erased, link_of};
 ghost use Rattle.rws_session.specs.Table.{AreDistinct, ReadsFirst, SendsOn};
 ghost use Rattle.rws_session.specs.Kept.{Holds, Is};
@@ -19,6 +20,7 @@ ghost use Rattle.rws_session.specs.Steps.{SendsPending, Tries, due_put, going_on
 use crate::owing::Out;
 use crate::session::Session;
 use rws_board::Action;
+use rws_config::FLOOD_ROOM;
 use rws_link::{LinkCause, LinkStep};
 use rws_msgs::status::AUTOCOMMIT;
 use rws_record::{Command, ProxyError, Request};
@@ -46,6 +48,9 @@ impl Session {
             return Ok(false);
         }
         if self.send()? {
+            return Ok(true);
+        }
+        if self.refuse_flood()? {
             return Ok(true);
         }
         if self.read_links()? {
@@ -120,6 +125,37 @@ impl Session {
         })?;
         self.sent_on = Some(link);
         Ok(true)
+    }
+
+    /// Breaks the session off where the client sent on too far behind the pending command.
+    fn refuse_flood(&mut self) -> Result<bool, AllocError>
+        ensures ok { (config : Config) (past : List Item) → Is config self.old past → owed past ≡ []
+            → IfOk result (λ went. Tries config (due_flood config past) past went self.old self.new) }
+        ensures err { OnErr result (Holds self.old self.new) }
+    {
+        match self.flood() {
+            None => Ok(false),
+            Some(held) => {
+                self.break_off(ProxyError::CommandTooLarge, CloseReason::Flooded { held })?;
+                Ok(true)
+            }
+        }
+    }
+
+    /// The first number of bytes above what the client may have sent behind the pending command, where so many are held.
+    fn flood(&self) -> Option<u64>
+        ensures { result ≡ flood_by self.now.state.pending (self.now.state.client.limit + FLOOD_ROOM)
+            (length self.now.state.client.held) }
+    {
+        if !self.is_busy() {
+            return None;
+        }
+        let held = self.client.held();
+        let limit = self.client.limit().saturating_add(FLOOD_ROOM);
+        if held > limit {
+            return Some(limit + 1);
+        }
+        None
     }
 
     /// Asks the links, in order of number, up to the first that has something to say.

@@ -1,0 +1,15 @@
+use Rattle.std.proofs.Common.{ap, ◌∙◌}
+use Rattle.std.specs.Prelude.{◌==◌, ◌&&◌}
+use Rattle.std.specs.List.{list_any}
+use Rattle.rws_link.specs.Linking.{is_awaiting}
+use Rattle.rws_record.specs.Values.{links}
+use Rattle.rws_session.specs.declared.links.NumberedLink.{NumberedLink}
+use Rattle.rws_session.specs.State.{State}
+use Rattle.rws_session.proofs.TableLemmas.{awaits_is}
+use Rattle.rws_session.proofs.session.Session.awaits.Goals as goal
+
+pub returns : goal.returns
+returns c = λ config past stands.
+    c.is_owed_by.ensures
+    ∙ ap (list_any (λ (link : NumberedLink). link.number == c.args.link && is_awaiting link.link)) (ap (λ (s : State). s.links) stands.is.mirrors)
+    ∙ awaits_is past c.args.link (links past)
