@@ -10,6 +10,7 @@ pub mod WantedLemmas
 -- the law on causes
 pub mod CausesLemmas
 -- the law on what a client has where a reply ended
+pub mod BytesLemmas
 pub mod WholeLemmas
 -- the law on what a session that rests has answered
 pub mod EndedLemmas

@@ -5,13 +5,16 @@ use Rattle.rws_reply.proofs.ClientLemmas.{client_replies_are_replies}
 use Rattle.rws_record.specs.Values.{prepared_handle}
 use Rattle.rws_laws.specs.Causes.{came_on}
 use Rattle.rws_laws.specs.Laws.{WholeReplies}
+use Rattle.rws_laws.proofs.BytesLemmas.{came_fits}
 use Rattle.rws_laws.proofs.CausesLemmas.{causes}
 
 small : prepared_handle < 2 ^ 32
 small = omega arith
 
 pub whole_replies : WholeReplies
-whole_replies config past number link command payload outcome legal bytes =
-    let cause = (causes config _ legal).0 in
+whole_replies config past number link command payload outcome legal heard =
+    let all = causes config _ legal in
+    let cause = all.0 in
+    let bytes = came_fits config link past all.1 heard in
     let seen = client_replies_are_replies command.kind prepared_handle (came_on link past) outcome small bytes cause.1 in
     (seen.0, subst (λ (list : List Payload). IsReply command.kind list seen.0) (sym cause.0.in_form) seen.1, seen.2)

@@ -26,6 +26,8 @@ use Rattle.rws_record.specs.Record.{CanBeMade}
 use Rattle.rws_record.specs.Run.{Entry, IsRun, IsRunOver, hearer, record_of, next_entry, events_of, done_in}
 use Rattle.rws_record.specs.Run.Entry.{Came, Did}
 use Rattle.rws_record.specs.Run.IsRun.{starts, came, goes_on, starves}
+use Rattle.rws_record.specs.declared.command.Command.{Command}
+use Rattle.rws_record.specs.Rules.{flood_by, flood_limit}
 use Rattle.rws_record.proofs.EntryLemmas.{of_next_entry, same_events}
 
 -- The run over events, computed
@@ -410,6 +412,21 @@ no_such_server : Does
     (to_link 1 (codes "020000000378") ∷ [])
 unfolding lenenc lenenc_bytes full_packet spelling number_behind payload_behind first_payload eof_at err_at err_code err_bytes bytes_at number_at fixed_at lenenc_at text_at text_bytes ended state_at texts_at ok_at ok_status texts_bytes ok_bytes prepare_ok_at eof_status prepared_counts column_count is_definition is_row progress role client_ok client_form
 no_such_server = does_in 16 refl refl
+
+-- Floods under the built-in settings: nothing is too much at the limit, or while no command is pending; above it, it is the
+-- first number above, however many bytes came
+
+at_the_limit : (command : Command) → flood_by (Some command) (flood_limit built_in) 68157440 ≡ None
+at_the_limit command = refl
+
+above_it : (command : Command) → flood_by (Some command) (flood_limit built_in) 68157441 ≡ Some 68157441
+above_it command = refl
+
+far_above_it : (command : Command) → flood_by (Some command) (flood_limit built_in) 100000000 ≡ Some 68157441
+far_above_it command = refl
+
+none_pending : flood_by None (flood_limit built_in) 100000000 ≡ None
+none_pending = refl
 
 -- Runs in which memory is wanting
 

@@ -118,3 +118,17 @@ fn floods(rt: HostRuntime) -> Result<(), Fail> {
     assert!(rt; session.is_over() && !session.awaits(1));
     Ok(())
 }
+
+#[test]
+fn a_farewell_is_reserved(rt: HostRuntime) -> Result<(), Fail> {
+    let config = built_in(rt.alloc())?;
+    let mut session = Session::begin(rt.alloc(), 7, 0, 3, &config)?;
+    let told = session.farewell();
+    assert_eq!(rt;
+        told.as_slice(),
+        b"\x16\0\0\x01\xff\x0d\x04#HY001out of memory".as_slice()
+    );
+    assert_eq!(rt; session.next_link(), Some(3));
+    assert_eq!(rt; session.next_link(), None);
+    Ok(())
+}

@@ -9,4 +9,6 @@ mod trace;
 pub use run::run_here;
 
 #[cfg(test)]
+mod results;
+#[cfg(test)]
 mod tests;

@@ -53,9 +53,10 @@ const TRACES: [(&[u8], u8, &[u8]); 9] = [
     ),
 ];
 
-/// Runs the program over an input and an output of which some calls fail: its status, and what it printed.
-fn run_over(
+/// Runs the program over an input and an output with so much room, of which some calls fail: its status, and what it printed.
+fn run_with(
     alloc: Global,
+    room: u64,
     words: &[&str],
     input: &[u8],
     read_fails: &[u64],
@@ -67,9 +68,25 @@ fn run_over(
     }
     let bytes = Text::from_slice(alloc, input)?;
     let mut source = MemSource::new(bytes, CallList::from_slice(alloc, read_fails)?);
-    let mut sink = MemSink::new(alloc, 1024, CallList::from_slice(alloc, write_fails)?)?;
+    let mut sink = MemSink::new(alloc, room, CallList::from_slice(alloc, write_fails)?)?;
     let status = run_here(alloc, &owned, &mut source, &mut sink);
     Ok((status, sink))
+}
+
+/// The same, where what is printed is short.
+fn run_over(
+    alloc: Global,
+    words: &[&str],
+    input: &[u8],
+    read_fails: &[u64],
+    write_fails: &[u64],
+) -> Result<(u8, MemSink), Fail> {
+    run_with(alloc, 1024, words, input, read_fails, write_fails)
+}
+
+/// The same with the words of a trace, where no call fails.
+pub fn run_in(alloc: Global, room: u64, input: &[u8]) -> Result<(u8, MemSink), Fail> {
+    run_with(alloc, room, &TRACE, input, &[], &[])
 }
 
 #[test]

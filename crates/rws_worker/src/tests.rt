@@ -33,3 +33,11 @@ fn a_ping_is_answered(rt: HostRuntime) -> Result<(), Fail> {
     assert!(rt; answered);
     Ok(())
 }
+
+#[test]
+fn a_worker_without_sessions_is_idle(rt: HostRuntime) -> Result<(), Fail> {
+    let mut worker = Worker::new(rt.alloc());
+    assert!(rt; !worker.is_spent());
+    assert_eq!(rt; worker.step(), Step::Idle);
+    Ok(())
+}
