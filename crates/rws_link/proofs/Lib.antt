@@ -2,3 +2,5 @@
 pub mod LoginLemmas
 -- pieces, and what a link keeps
 pub mod LinkLemmas
+-- bytes that come later
+pub mod LaterLemmas

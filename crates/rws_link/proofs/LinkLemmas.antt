@@ -1,16 +1,16 @@
 -- Pieces are joined, also in front of a payload that was read before.
-use Rattle.std.proofs.Common.{◌≡◌, ℕ, zero, suc, ◌/◌, Bool, true, false, List, [], ◌∷◌, ◌++◌, length, Option, Some, None, Ok, refl, ap, sym, ◌∙◌, append_assoc, rules}
-use Rattle.std.specs.Prelude.{not, ◌&&◌}
+use Rattle.std.proofs.Common.{◌≡◌, ℕ, zero, suc, ◌/◌, true, false, List, [], ◌∷◌, ◌++◌, length, Option, Some, None, Ok, refl, ap, sym, ◌∙◌, append_assoc, rules}
+use Rattle.std.specs.Prelude.{not}
 use Rattle.rws_wire.specs.declared.payload.Payload.{Payload}
-use Rattle.rws_wire.specs.Packets.{full_packet, packets, number_behind, spelling}
+use Rattle.rws_wire.specs.Packets.{full_packet, packets, spelling}
 use Rattle.rws_wire.specs.Payloads.{Whole}
 use Rattle.rws_wire.proofs.PayloadLemmas.{first_payload-spelling}
 use Rattle.rws_config.specs.declared.limits.TheConstants.{SERVER_PAYLOAD}
 use Rattle.rws_link.specs.declared.handshake.Handshake.{Handshake}
 use Rattle.rws_link.specs.Handshake.{awaits_greeting}
 use Rattle.rws_link.specs.declared.step.LinkCause.TheVariants.{Unasked}
-use Rattle.rws_link.specs.Stepping.{LinkState, LogsIn, Rests, Awaits, IsLost, Exchange, fed, is_new, is_some_byte, logged_in, lost, settled}
-use Rattle.rws_link.specs.Linking.{Linking, Opening, Ready, Arrives, IsRead, kept, nothing_came, taken}
+use Rattle.rws_link.specs.Stepping.{LinkState, LogsIn, Rests, Awaits, IsLost, is_new, is_some_byte, logged_in, lost, settled}
+use Rattle.rws_link.specs.Linking.{Opening, Ready, Arrives, IsRead, kept, nothing_came, taken}
 use Rattle.rws_link.specs.Laws.{PiecesAreJoined}
 
 pub pieces_join : PiecesAreJoined

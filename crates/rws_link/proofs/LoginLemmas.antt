@@ -1,12 +1,11 @@
 -- What a link responds is in the protocol's layout: each capability stands with its field.
-use Rattle.std.proofs.Common.{◌≡◌, ◌≢◌, ℕ, ◌<◌, ◌^◌, Bool, true, false, List, [], ◌∷◌, length, get_or, Option, Some, None, Ok, refl, ap, sym, ◌∙◌, rules, arith}
+use Rattle.std.proofs.Common.{◌≡◌, ℕ, ◌<◌, ◌^◌, Bool, true, false, List, length, get_or, Option, Some, None, refl, ap, ◌∙◌, rules, arith}
 use Rattle.std.specs.Prelude.{◌==◌, bit_and, bit_or, bit_xor, not, IfSome}
 use Rattle.std.proofs.lemmas.Nat.{and_or_self, and_or_apart, and_assoc, and_le_r, or_of_32}
 use Rattle.std.proofs.lemmas.List.FromFn.{length-map-range_with_len}
 use Rattle.rws_msgs.specs.Fields.{HasNoZero}
-use Rattle.rws_msgs.specs.declared.response.Response.{Response}
 use Rattle.rws_msgs.specs.declared.capability.TheConstants.{CONNECT_WITH_DB, PLUGIN_AUTH, PLUGIN_AUTH_LENENC_CLIENT_DATA, KEPT_FOR_LINKS, SENT_TO_SERVERS}
-use Rattle.rws_msgs.specs.ResponseLayout.{IsAnswer, IsName, IsResponse, ResponseFits, has, response_at, response_bytes, with_database, with_lenenc, with_plugin}
+use Rattle.rws_msgs.specs.ResponseLayout.{IsAnswer, IsName, IsResponse, ResponseFits, has, with_database, with_lenenc, with_plugin}
 use Rattle.rws_msgs.proofs.ResponseLemmas.{response_again}
 use Rattle.rws_native.specs.Native.{xor, answer_of}
 use Rattle.rws_native.specs.declared.login.Login.{Login}

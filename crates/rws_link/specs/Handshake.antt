@@ -1,22 +1,21 @@
 -- A client's side of the connection phase ("Connection" of MariaDB's protocol documentation), for one who has the first
 -- stage of a password in place of the password: the server greets, the client responds, and the server takes the login, refuses
 -- it, or asks for an answer by another plugin or over another scramble.
-use Rattle.std.specs.Prelude.{ℕ, Bool, true, false, List, [], ◌==◌, bit_and, bit_or, codes, nat_eq, Option, Some, None, Result, Ok, Err, if◌then◌else◌}
+use Rattle.std.specs.Prelude.{ℕ, Bool, true, false, List, [], ◌&&◌, bit_and, bit_or, codes, nat_eq, Option, Some, None, Result, Ok, Err, if◌then◌else◌}
 use Rattle.std.specs.Cmp.Lexicographic.{pointwise}
 use Rattle.rws_wire.specs.Packets.{number_behind, spelling}
 use Rattle.rws_msgs.specs.declared.fault.MsgFault.{MsgFault}
 use Rattle.rws_msgs.specs.declared.greeting.Greeting.{Greeting}
 use Rattle.rws_msgs.specs.declared.response.Response.{Response}
 use Rattle.rws_msgs.specs.declared.switch.Switch.{Switch}
-use Rattle.rws_msgs.specs.declared.capability.TheConstants.{CONNECT_WITH_DB, KEPT_FOR_LINKS, SENT_TO_SERVERS}
+use Rattle.rws_msgs.specs.declared.capability.TheConstants.{CONNECT_WITH_DB, KEPT_FOR_LINKS, PLUGIN_AUTH, PROTOCOL_41, SECURE_CONNECTION, SENT_TO_SERVERS, SESSION_TRACK}
 use Rattle.rws_msgs.specs.GreetingLayout.{greeting_at}
-use Rattle.rws_msgs.specs.ResponseLayout.{response_bytes}
+use Rattle.rws_msgs.specs.ResponseLayout.{has, response_bytes}
 use Rattle.rws_msgs.specs.OkLayout.{ok_status}
 use Rattle.rws_msgs.specs.ErrLayout.{err_code}
 use Rattle.rws_msgs.specs.SwitchLayout.{plugin_asked, switch_at}
 use Rattle.rws_native.specs.Native.{answer_of}
 use Rattle.rws_native.specs.declared.login.Login.{Login}
-use Rattle.rws_link.specs.declared.handshake.TheConstants.{NEEDED_OF_SERVERS}
 use Rattle.rws_link.specs.declared.handshake.Handshake.{Handshake}
 use Rattle.rws_link.specs.declared.handshake.Handshake.TheVariants.{Greeting as AwaitsGreeting, Answered}
 use Rattle.rws_link.specs.declared.handshake.Reaction.{Reaction}
@@ -60,7 +59,8 @@ abbrev pub answered : List ℕ → Option (List ℕ) → ℕ → Reaction
 answered payload stage1 number = Answers (spelling number payload) stage1 (number_behind number payload)
 
 abbrev pub is_served : ℕ → Bool
-is_served capabilities = bit_and capabilities NEEDED_OF_SERVERS == NEEDED_OF_SERVERS
+is_served capabilities =
+    has capabilities PROTOCOL_41 && has capabilities SECURE_CONNECTION && has capabilities PLUGIN_AUTH && has capabilities SESSION_TRACK
 
 -- Initial Handshake Packet of a server that has what a link stands on; whatever plugin it names
 abbrev pub greeted_by : Login → ℕ → Result Greeting MsgFault → Reaction

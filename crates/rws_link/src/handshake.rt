@@ -2,6 +2,7 @@
 
 ghost use Rattle.std.specs.Prelude.{◌≡◌, true, IfOk};
 ghost use Rattle.rws_msgs.specs.GreetingLayout.{greeting_at};
+ghost use Rattle.rws_msgs.specs.ResponseLayout.{has};
 ghost use Rattle.rws_msgs.specs.SwitchLayout.{plugin_asked, switch_at};
 ghost use Rattle.rws_msgs.specs.ErrLayout.{err_code};
 ghost use Rattle.rws_msgs.specs.OkLayout.{ok_status};
@@ -16,9 +17,6 @@ use rws_msgs::{Greeting, MsgFault, Response, Switch, err_code, ok_status};
 use rws_native::{Login, Stage1, relay};
 use rws_wire::{Payload, Text, frame};
 use std::alloc::{AllocError, Global};
-
-/// What a server has to offer in its greeting.
-const NEEDED_OF_SERVERS: u32 = PROTOCOL_41 | SECURE_CONNECTION | PLUGIN_AUTH | SESSION_TRACK;
 
 /// The one authentication plugin that is spoken.
 const NATIVE_PLUGIN: &[u8] = b"mysql_native_password";
@@ -68,8 +66,8 @@ impl Handshake {
         }
     }
 
-    /// What the server's next payload leads to. It takes memory where it is to be answered, and where it is a greeting or a switch
-    /// at all.
+    /// What the server's next payload leads to. Greetings, switches and what they are answered with take memory, nothing
+    /// else does.
     #[tactic(auto, unfolding(crate::specs::Handshake::reaction))]
     pub(crate) fn react(&self, alloc: Global, payload: &Payload) -> Result<Reaction, AllocError>
         ensures { IfOk result (λ found. found ≡ reaction self.now payload.now.bytes payload.now.next) }
@@ -107,16 +105,6 @@ fn flags_of(login: &Login) -> u32
     SENT_TO_SERVERS | login.flags & KEPT_FOR_LINKS | named
 }
 
-/// A name that is there or not, copied.
-fn copied(name: &Option<Text>) -> Result<Option<Text>, AllocError>
-    ensures { IfOk result (λ copy. copy ≡ name.now) }
-{
-    match name {
-        Some(text) => Ok(Some(text.clone()?)),
-        None => Ok(None),
-    }
-}
-
 /// The response to a greeting with this scramble.
 #[tactic(auto, unfolding(crate::specs::Handshake::response_of))]
 fn response_of(alloc: Global, login: &Login, scramble: &[u8; 20]) -> Result<Response, AllocError>
@@ -127,7 +115,7 @@ fn response_of(alloc: Global, login: &Login, scramble: &[u8; 20]) -> Result<Resp
         charset: login.charset,
         user: login.user.clone()?,
         answer: proof_over(alloc, &login.stage1, scramble)?,
-        database: copied(&login.database)?,
+        database: login.database.clone()?,
         plugin: Some(Text::from_slice(alloc, NATIVE_PLUGIN)?),
     })
 }
@@ -150,11 +138,22 @@ fn answered(
     })
 }
 
+/// Whether the capabilities have this one.
+#[tactic(auto, unfolding(rws_msgs::specs::ResponseLayout::has))]
+fn has(capabilities: u32, bit: u32) -> bool
+    ensures { result ≡ has capabilities bit }
+{
+    capabilities & bit != 0
+}
+
 /// Whether a server with these capabilities has what a link stands on.
 fn is_served(capabilities: u32) -> bool
     ensures { result ≡ is_served capabilities }
 {
-    capabilities & NEEDED_OF_SERVERS == NEEDED_OF_SERVERS
+    has(capabilities, PROTOCOL_41)
+        && has(capabilities, SECURE_CONNECTION)
+        && has(capabilities, PLUGIN_AUTH)
+        && has(capabilities, SESSION_TRACK)
 }
 
 /// The answer to a greeting.

@@ -43,7 +43,7 @@ impl Model for Link {
 }
 
 impl Link {
-    /// A link that is to log in so. It takes no byte for granted: the server greets first.
+    /// A link that logs in so, once the server greets it.
     pub fn new(alloc: Global, login: &Login) -> Result<Link, AllocError>
         // Both end with a zero byte on the wire.
         requires user { HasNoZero login.now.user }
@@ -60,8 +60,8 @@ impl Link {
         })
     }
 
-    /// Takes greeting and login as done, for a server that is known to have done both. Where a byte came already, or the link
-    /// isn't about to be greeted, nothing changes.
+    /// Takes greeting and login as done, for a connection that is known to be behind both. Where a byte came already, or the
+    /// greeting isn't awaited, nothing changes.
     pub fn ready(&mut self)
         ensures { (link : LinkState) → self.old ≡ kept link → self.new ≡ kept (readied link) }
     {
@@ -143,6 +143,7 @@ impl Link {
         ensures ok { (link : LinkState) → self.old ≡ kept link → IfOk result (λ answer. Takes (step link) answer self.new) }
         ensures err { OnErr result (self.new ≡ self.old) }
     {
+        // The phase is taken out for the step, and `Ready` stands in its place.
         match std::mem::replace(&mut self.phase, Phase::Ready) {
             Phase::Ready => Ok(LinkStep::Idle),
             Phase::Lost(cause) => Ok(self.lose(cause)),
