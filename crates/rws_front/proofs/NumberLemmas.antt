@@ -1,8 +1,7 @@
 -- The number of an error counts the client's packets.
-use Rattle.std.proofs.Common.{◌≡◌, ◌≢◌, ℕ, zero, suc, ◌+◌, ◌-◌, ◌*◌, ◌/◌, ◌%◌, ◌<◌, ◌≤◌, ◌^◌, Bool, true, false, cond, ◌==◌, List, length, refl, sym, ap, ◌∙◌, arith}
+use Rattle.std.proofs.Common.{◌≡◌, ℕ, zero, suc, ◌+◌, ◌-◌, ◌*◌, ◌/◌, ◌%◌, ◌<◌, ◌≤◌, ◌^◌, Bool, cond, ◌==◌, List, length, refl, sym, ap, ◌∙◌, arith}
 use Rattle.std.proofs.lemmas.Bool.{eq-eqb, ne_eqb}
 use Rattle.rws_wire.specs.declared.fault.WireFault.{WireFault}
-use Rattle.rws_wire.specs.declared.fault.WireFault.TheVariants.{OutOfOrder, TooLarge}
 use Rattle.rws_wire.specs.Packets.{full_packet}
 use Rattle.rws_wire.specs.Payloads.{Beginning, Nothing, Whole, Faulty}
 use Rattle.rws_wire.specs.Beginnings.{due, Begins, whole, other_number, too_large, short_header, short_packet}

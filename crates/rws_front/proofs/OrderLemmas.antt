@@ -1,5 +1,5 @@
 -- Each step is one of those that there are.
-use Rattle.std.proofs.Common.{◌≡◌, ℕ, Bool, true, false, cond, List, Option, Some, None}
+use Rattle.std.proofs.Common.{ℕ, Bool, true, false, cond, List, Option, Some, None}
 use Rattle.rws_wire.specs.declared.fault.WireFault.{WireFault}
 use Rattle.rws_wire.specs.Deframing.{Deframing, next_of}
 use Rattle.rws_wire.specs.Packets.{spelling, next_number}

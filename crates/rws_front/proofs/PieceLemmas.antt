@@ -1,7 +1,7 @@
 -- A step that wants no more bytes stays the same when more come.
 use Rattle.std.proofs.Common.{◌≡◌, ℕ, List, ◌++◌, Option, Some, None, refl, ap}
 use Rattle.rws_wire.specs.declared.fault.WireFault.{WireFault}
-use Rattle.rws_wire.specs.Deframing.{Deframing, next_of}
+use Rattle.rws_wire.specs.Deframing.{next_of}
 use Rattle.rws_wire.specs.Packets.{next_number}
 use Rattle.rws_wire.specs.Payloads.{Beginning, Nothing, Whole, Faulty, first_payload}
 use Rattle.rws_wire.proofs.PayloadLemmas.{first_payload-Whole-append, first_payload-Faulty-append}
