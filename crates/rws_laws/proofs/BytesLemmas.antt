@@ -22,7 +22,7 @@ use Rattle.rws_link.specs.Stepping.{LinkState, LogsIn, Rests, Awaits, IsLost, Ex
 use Rattle.rws_config.specs.declared.config.Config.{Config}
 use Rattle.rws_config.specs.declared.limits.TheConstants.{SERVER_PAYLOAD}
 use Rattle.rws_record.specs.Item.{Item}
-use Rattle.rws_record.specs.Item.Item.{Began, ClientBytes, LinkBytes, ClientGone, LinkLost, Comes, Takes, TakesFault, Floods, Puts}
+use Rattle.rws_record.specs.Item.Item.{Began, ClientBytes, LinkBytes, ClientGone, LinkLost, Comes, Takes, TakesFault, Floods, Puts, Starves}
 use Rattle.rws_record.specs.Item.Put.{Tells, Sends, Drops, Closes}
 use Rattle.rws_record.specs.Values.{kind_of, link_held, linked, sent_for, unread}
 use Rattle.rws_record.proofs.LinkedLemmas.{logs_in, never_logs_in}
@@ -190,6 +190,7 @@ came_fits config link (LinkLost gone ∷ past) caused heard = came_fits config l
 came_fits config link (Takes it number ∷ past) caused heard = came_fits config link past caused.2 heard
 came_fits config link (TakesFault fault ∷ past) caused heard = came_fits config link past caused.2 heard
 came_fits config link (Floods bytes ∷ past) caused heard = came_fits config link past caused.2 heard
+came_fits config link (Starves made ∷ past) caused heard = came_fits config link past caused.2 heard
 came_fits config link (Puts (Tells number tell) ∷ past) caused heard = came_fits config link past caused.1 heard
 came_fits config link (Puts (Drops gone cause) ∷ past) caused heard = came_fits config link past caused.1 heard
 came_fits config link (Puts (Closes reason) ∷ past) caused heard = came_fits config link past caused.1 heard

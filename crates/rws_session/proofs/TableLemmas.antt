@@ -250,9 +250,11 @@ read_behind past numbers link new others behind are distinct stays_so takes resu
     one first rest alone idle is None there = (rw idle there.0, both is there.1)
     one first rest alone idle is (Some found) there =
         let differ : (first == found.0) ≡ false = ne_eqb first found.0 (λ same.
-        let has : contains first rest ≡ true = rw (← same) at there.1 in absurd cc) in
-        (rw idle there.0, rw differ there.1,
-        changes_behind past (Comes found.0 found.1) found.0 (coming_about past found.0 found.1) first rest new behind is differ there.2)
+        let has : contains first rest ≡ true = rw (← same) at there.1 in absurd cc) in (
+          rw idle there.0,
+          rw differ there.1,
+          changes_behind past (Comes found.0 found.1) found.0 (coming_about past found.0 found.1) first rest new behind is differ there.2,
+        )
 
 -- a link of this number is there
 pub has_is : (past : List Item) (number : ℕ) (links : List ℕ)
