@@ -1,29 +1,41 @@
 -- The reply to a command that was sent is awaited, until its end is passed on or the session is closed.
 use Rattle.std.proofs.Common.{◌≡◌, ℕ, ◌+◌, Bool, true, false, List, [], ◌∷◌, ◌++◌, drop, refl, sym, ap, subst, ◌∙◌, inl, inr, Option, Some, None}
 use Rattle.std.specs.Prelude.{◌⊎◌, ◌==◌, if◌then◌else◌}
-use Rattle.std.proofs.lemmas.Bool.{eq-eqb}
+use Rattle.std.proofs.lemmas.Bool.{eqb-true, eq-eqb}
 use Rattle.rws_wire.specs.declared.drop_cause.DropCause.{DropCause}
 use Rattle.rws_wire.specs.declared.drop_cause.DropCause.TheVariants.{BadWire, BadReply, Unasked, End}
+use Rattle.rws_reply.specs.declared.kind.Kind.{Kind}
 use Rattle.rws_reply.specs.declared.kind.Progress.{Progress}
 use Rattle.rws_reply.specs.declared.kind.Progress.TheVariants.{More, Whole as Ends}
+use Rattle.rws_reply.specs.declared.role.Role.{Role}
+use Rattle.rws_reply.specs.Tracking.{progress, role}
 use Rattle.rws_reply.specs.Replies.{Payload}
 use Rattle.rws_reply.specs.ClientForm.{client_reply}
+use Rattle.rws_wire.specs.Packets.{number_behind}
+use Rattle.rws_wire.specs.Payloads.{first_payload}
+use Rattle.rws_wire.specs.Payloads.Beginning.{Whole}
+use Rattle.rws_link.specs.declared.step.LinkStep.{LinkStep}
+use Rattle.rws_link.specs.declared.step.LinkStep.TheVariants as steps
+use Rattle.rws_link.specs.Stepping.{LinkState, Awaits, Exchange, is_some_byte, step, with_part}
 use Rattle.rws_config.specs.declared.config.Config.{Config}
+use Rattle.rws_config.specs.declared.limits.TheConstants.{SERVER_PAYLOAD}
 use Rattle.rws_record.specs.declared.command.Command.{Command}
-use Rattle.rws_record.specs.Item.{Item, Part, Tell, Put}
-use Rattle.rws_record.specs.Item.Item.{ClientBytes, LinkBytes, ClientGone, LinkLost, Replies, Garbles, Strays, TakesFault, Floods, Puts}
+use Rattle.rws_record.specs.Item.{Item, Tell, Put}
+use Rattle.rws_record.specs.Item.Item.{ClientBytes, LinkBytes, ClientGone, LinkLost, Comes, TakesFault, Floods, Puts}
 use Rattle.rws_record.specs.Item.Purpose.{Asks}
 use Rattle.rws_record.specs.Item.Put.{Tells, Sends, Drops, Closes}
 use Rattle.rws_record.specs.Item.Tell.{Passes, Owns, Refuses}
-use Rattle.rws_record.specs.Values.{kept_on, Exchange, exchange, asked, with_part, goes_on_by, prepared_handle, form_of, pending, sent_on, reply_number, told, is_over, is_starved}
-use Rattle.rws_record.specs.Rules.{next, owed, after_loss, after_part, after_answer, part_of, flood_limit}
+use Rattle.rws_record.specs.Values.{kept_on, asked_on, awaited, exchange, linked, prepared_handle, pending, sent_on, reply_number, told, is_over, is_starved}
+use Rattle.rws_record.specs.Rules.{next, owed, after_loss, after_answer, flood_limit, form_of}
+use Rattle.rws_record.proofs.LinkedLemmas.{Says, after_part_is}
+use Rattle.rws_record.proofs.LinkedLemmas.Says.{part, garbled, wrong, again}
 use Rattle.rws_record.specs.Record.{IsRecord, IsInput}
 use Rattle.rws_record.specs.Record.IsRecord.{begins, steps, hears, starves}
 use Rattle.rws_record.proofs.StepLemmas.{Due, Step, of_next, rests_owing_nothing}
-use Rattle.rws_record.proofs.StepLemmas.Due.{replies, garbles, strays, takes, takes_fault}
+use Rattle.rws_record.proofs.StepLemmas.Due.{comes, takes, takes_fault}
 use Rattle.rws_record.proofs.StepLemmas.Step.{pays, sends, floods, reads}
 use Rattle.rws_laws.specs.Causes.{IsCaused, came_on}
-use Rattle.rws_laws.proofs.CameLemmas.{sofar_came}
+use Rattle.rws_laws.proofs.CameLemmas.{bytes_keep, legal_came}
 use Rattle.rws_laws.proofs.Sound.{Caused, Sound, kept_there, same_some}
 use Rattle.rws_laws.proofs.Sound.Caused.{drops, closes, tells}
 use Rattle.rws_laws.proofs.LinksLemmas.{loss_closes}
@@ -38,13 +50,13 @@ ends_it (Closes reason ∷ others) = true
 ends_it _ = false
 
 -- the reply to what was sent on a link
-data Awaits (link : ℕ) (past : List Item) : Type 0 where
-  awaits : {e : Exchange} → exchange link past ≡ Some e → Awaits link past
-  settles : ends_it (owed past) ≡ true → Awaits link past
-  over : is_over past ≡ true → Awaits link past
+data AwaitsOn (link : ℕ) (past : List Item) : Type 0 where
+  awaits : {e : Exchange} → exchange link past ≡ Some e → AwaitsOn link past
+  settles : ends_it (owed past) ≡ true → AwaitsOn link past
+  over : is_over past ≡ true → AwaitsOn link past
 
 abbrev Awaiting : List Item → Type 0
-Awaiting past = (link : ℕ) → sent_on past ≡ Some link → Awaits link past
+Awaiting past = (link : ℕ) → sent_on past ≡ Some link → AwaitsOn link past
 
 -- What is given out
 
@@ -74,7 +86,7 @@ module _ (config : Config) (past : List Item) (sound : Sound config past) (await
   drop_settles : (lost : ℕ) (cause : DropCause) → IsCaused config (Drops lost cause) past
       → (ends_it (owed (Puts (Drops lost cause) ∷ past)) ≡ true) ⊎ (is_over past ≡ true)
   drop_settles lost BadWire caused = inl (loss_settles lost (kept_there sound.one_link lost caused.2))
-  drop_settles lost BadReply caused = inl (loss_settles lost (kept_there sound.one_link lost caused.4))
+  drop_settles lost BadReply caused = inl (loss_settles lost (kept_there sound.one_link lost caused.6))
   drop_settles lost Unasked caused = inl (loss_settles lost (kept_there sound.one_link lost caused.1))
   drop_settles lost End caused = inr caused.0
   drop_settles lost _ caused = absurd caused
@@ -95,54 +107,58 @@ module _ (config : Config) (past : List Item) (sound : Sound config past) (await
 
   module _ (o : owed past ≡ []) (n : is_over past ≡ false) where
     -- while nothing is owed
-    awaited : (link : ℕ) → sent_on past ≡ Some link → (e : Exchange) × (exchange link past ≡ Some e)
-    awaited link s = elim (awaiting link s) [
+    its_reply : (link : ℕ) → sent_on past ≡ Some link → (e : Exchange) × (exchange link past ≡ Some e)
+    its_reply link s = elim (awaiting link s) [
       | awaits {e = e} a ↦ (e, a)
       | settles end ↦ absurd (let e : false ≡ true = ap ends_it (sym o) ∙ end in cc)
       | over is ↦ absurd cc
     ]
 
-    module _ (from : ℕ) (e : Exchange) (part : Part) (a : exchange from past ≡ Some e) where
-      abbrev its : Command → Exchange
-      its command = record { purpose = Asks command; next = e.next; sofar = e.sofar }
+    -- a payload that brings the reply on leaves it awaited, a last one is passed on with its end, and a loss closes the session
+    owed_by : (from : ℕ) (command : Command) (payload rest : Payload) (number : ℕ) (its : Role) (far : Progress)
+        → asked_on from past ≡ Some (Asks command)
+        → owed (Comes from (steps.Part payload its far number (is_some_byte rest)) ∷ past)
+        ≡ after_answer from command (form_of its payload) far (is_some_byte rest) (reply_number past)
+    owed_by from command payload rest number its far a = rw a refl
 
-      abbrev answer : Command → Option Progress → List Put
-      answer command far = after_answer from command (form_of (its command) part.payload) far part.behind (reply_number past)
+    part_awaits : (from : ℕ) (e : Exchange) (bytes payload rest : Payload) (number : ℕ) (its : Role) (far : Progress)
+        → linked from past ≡ Awaits e bytes → first_payload SERVER_PAYLOAD e.next bytes ≡ Whole payload number rest
+        → role e.kind e.sofar payload ≡ Some its → progress e.kind e.sofar payload ≡ Some far
+        → Awaiting (Comes from (steps.Part payload its far number (is_some_byte rest)) ∷ past)
+    part_awaits from e bytes payload rest number its (Ends outcome) is f r p = λ link s.
+        let waits = sound.waits from e (ap awaited is) in
+        settles (ap ends_it (owed_by from waits.command payload rest number its (Ends outcome) waits.asked_it))
+    part_awaits from e bytes payload rest number its More is f r p = λ link s. (by_link link s (from == link) refl)
+      where
+        by_link : (link : ℕ) → sent_on past ≡ Some link → (same : Bool) → (from == link) ≡ same
+            → AwaitsOn link (Comes from (steps.Part payload its More number (is_some_byte rest)) ∷ past)
+        by_link link s true t =
+            let same : from ≡ link = eqb-true from link t in
+            let is : linked link past ≡ Awaits e bytes = subst (λ (l : ℕ). linked l past ≡ Awaits e bytes) same is in
+            awaits {e = with_part payload number e}
+            (rw t (ap (λ (l : LinkState). awaited (step l).after) is ∙ ap awaited (after_part_is e bytes payload rest number its More f r p)))
+        by_link link s false t = let mine = its_reply link s in awaits {e = mine.0} (rw t mine.1)
 
-      owed_now : (command : Command) → e ≡ its command → owed (Replies from part ∷ past) ≡ answer command part.progress
-      owed_now command is =
-          ap (λ (x : Option Exchange). after_part from part x (reply_number past)) a
-          ∙ ap (λ (x : Exchange). after_part from part (Some x) (reply_number past)) is
-
-      goes_by : (link : ℕ) (same : Bool) → (from == link) ≡ same → part.progress ≡ Some More → sent_on past ≡ Some link
-          → (now : Exchange) × ((if same then goes_on_by part.progress part (exchange link past) else exchange link past) ≡ Some now)
-      goes_by link true t more s = let its = awaited link s in (with_part part its.0, rw (more, its.1) refl)
-      goes_by link false t more s = awaited link s
-
-      reply_awaits : (command : Command) (far : Option Progress) → part.progress ≡ far
-          → owed (Replies from part ∷ past) ≡ answer command far → Awaiting (Replies from part ∷ past)
-      reply_awaits command None is now = λ link s. settles (rw now refl)
-      reply_awaits command (Some (Ends outcome)) is now = λ link s. settles (rw now refl)
-      reply_awaits command (Some More) is now = λ link s. awaits (goes_by link (from == link) refl is s).1
+    coming_awaits : (from : ℕ) (state : LinkState) (said : LinkStep) → linked from past ≡ state → Says state said
+        → Awaiting (Comes from said ∷ past)
+    coming_awaits from state said is (part {e = e} {unread = bytes} {payload = payload} {rest = rest} {number = number} {its = its} {far = far} f r p) =
+        part_awaits from e bytes payload rest number its far is f r p
+    coming_awaits from state said is (garbled f) = λ link s. settles refl
+    coming_awaits from state said is (wrong f p) = λ link s. settles refl
+    coming_awaits from state said is again = λ link s. settles refl
 
     still : (item : Item) → sent_on (item ∷ past) ≡ sent_on past
         → ((link : ℕ) → exchange link (item ∷ past) ≡ exchange link past) → Awaiting (item ∷ past)
-    still item same x = λ link s. let its = awaited link (sym same ∙ s) in awaits (x link ∙ its.1)
+    still item same x = λ link s. let its = its_reply link (sym same ∙ s) in awaits (x link ∙ its.1)
 
     due_awaits : {item : Item} → Due config past item → Awaiting (item ∷ past)
-    due_awaits (replies {link = from} {e = e} {payload = payload} {rest = rest} {number = number} has a f) =
-        let waits = sound.waits from e a in
-        let part : Part = part_of e payload number rest in
-        reply_awaits from e part a waits.command part.progress refl
-        (owed_now from e part a waits.command waits.is)
-    due_awaits (garbles {link = from} {fault = fault} has a f) = still (Garbles from fault) refl (λ link. refl)
-    due_awaits (strays {link = from} has a u) = still (Strays from) refl (λ link. refl)
+    due_awaits (comes {link = from} {said = said} has a it) = coming_awaits from (linked from past) said refl it
     due_awaits (takes p f) = λ link s. absurd cc
     due_awaits (takes_fault {fault = fault} p f) = still (TakesFault fault) refl (λ link. refl)
 
     input_awaits : (item : Item) → IsInput item past → Awaiting (item ∷ past)
     input_awaits (ClientBytes bytes) input = still (ClientBytes bytes) refl (λ link. refl)
-    input_awaits (LinkBytes from bytes) input = still (LinkBytes from bytes) refl (λ link. refl)
+    input_awaits (LinkBytes from bytes) input = still (LinkBytes from bytes) refl (bytes_keep past from bytes)
     input_awaits ClientGone input = λ link s. over refl
     input_awaits (LinkLost gone) input = still (LinkLost gone) refl (λ link. refl)
     input_awaits _ input = absurd input
@@ -151,7 +167,7 @@ send_awaits : (past : List Item) (to : ℕ) (command : Command) → Awaiting (Pu
 send_awaits past to command = λ link s.
     let same : to ≡ link = same_some to link s in
     let itself : (to == link) ≡ true = eq-eqb to link same in
-    awaits {e = asked (Asks command)} (rw itself refl)
+    awaits {e = record { kind = command.kind; next = number_behind 0 command.payload; sofar = [] }} (rw itself refl)
 
 step_awaits : {config : Config} {past : List Item} {item : Item} → Step config past item → Sound config past → Awaiting past
     → Awaiting (item ∷ past)
@@ -177,21 +193,20 @@ legal_awaits (starves legal once can) fed = absurd cc
 -- form
 pub rests_awaiting : (config : Config) (past : List Item) → IsRecord config past → next config past ≡ None → is_over past ≡ false
     → (command : Command) (link : ℕ) → pending past ≡ Some command → sent_on past ≡ Some link
-    → (number : ℕ) × (exchange link past ≡ Some (record { purpose = Asks command; next = number; sofar = came_on link past }))
+    → (number : ℕ) × (exchange link past ≡ Some (record { kind = command.kind; next = number; sofar = came_on link past }))
     × (told past ≡ client_reply command.kind prepared_handle (came_on link past))
 rests_awaiting config past legal rests n command link p s =
     let o = rests_owing_nothing config past rests in
     let fed = unstarved legal o n in
     let sound = legal_sound legal fed in
-    let its = awaited config past sound (legal_awaits legal fed) o n link s in
+    let its = its_reply config past sound (legal_awaits legal fed) o n link s in
     let waits = sound.waits link its.0 its.1 in
     let same : waits.command ≡ command = same_some waits.command command (sym waits.waits ∙ p) in
-    let came = sofar_came link past its.0 its.1 in
+    let came = legal_came legal link its.0 its.1 in
     let form = clean config past sound o its.0 waits.command waits.in_form in (
       its.0.next,
-      its.1 ∙ ap Some waits.is
-          ∙ ap (λ (sofar : List Payload). Some (record { purpose = Asks waits.command; next = its.0.next; sofar = sofar })) came
-          ∙ ap (λ (c : Command). Some (record { purpose = Asks c; next = its.0.next; sofar = came_on link past })) same,
+      its.1 ∙ ap (λ (kind : Kind). Some (record { kind = kind; next = its.0.next; sofar = its.0.sofar })) (waits.kind ∙ ap (λ (c : Command). c.kind) same)
+          ∙ ap (λ (sofar : List Payload). Some (record { kind = command.kind; next = its.0.next; sofar = sofar })) came,
       sym form ∙ ap (client_reply waits.command.kind prepared_handle) came
           ∙ ap (λ (c : Command). client_reply c.kind prepared_handle (came_on link past)) same,
     )

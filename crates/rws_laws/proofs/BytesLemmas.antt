@@ -1,5 +1,5 @@
 -- Where the bytes that came on links are bytes, so are the payloads that are read of them.
-use Rattle.std.proofs.Common.{◌≡◌, ℕ, zero, suc, ◌<◌, ◌≤◌, Bool, true, false, List, [], ◌∷◌, ◌++◌, length, take, drop, refl, sym, ◌∙◌, arith}
+use Rattle.std.proofs.Common.{◌≡◌, ℕ, zero, suc, ◌+◌, ◌<◌, ◌≤◌, Bool, true, false, List, [], ◌∷◌, ◌++◌, length, take, drop, refl, sym, ap, ◌∙◌, arith, Option, Some, None}
 use Rattle.std.specs.Prelude.{◌==◌, if◌then◌else◌}
 use Rattle.std.specs.List.{AllByRecursion}
 use Rattle.std.proofs.lemmas.List.{length-drop, nil_from_length}
@@ -12,13 +12,21 @@ use Rattle.rws_wire.specs.declared.packet.Packet.TheVariants.{Partial, Bad, More
 use Rattle.rws_wire.proofs.NumberLemmas.{AreBytes-drop, AreBytes-take}
 use Rattle.rws_wire.proofs.PayloadLemmas.{behind_bad, behind_last, behind_more, behind_partial, first_payload-is, more_fits}
 use Rattle.rws_reply.specs.Replies.{Payload}
+use Rattle.rws_reply.specs.declared.kind.Progress.{Progress}
+use Rattle.rws_reply.specs.declared.kind.Progress.TheVariants.{More as On, Whole as Ends}
+use Rattle.rws_reply.specs.declared.role.Role.{Role}
+use Rattle.rws_reply.specs.Tracking.{progress, role}
+use Rattle.rws_link.specs.declared.step.LinkStep.{LinkStep}
+use Rattle.rws_link.specs.declared.step.LinkStep.TheVariants as steps
+use Rattle.rws_link.specs.Stepping.{LinkState, LogsIn, Rests, Awaits, IsLost, Exchange, behind_part, fed, read_by, replied, replied_by, sent, settled, step, with_part}
 use Rattle.rws_config.specs.declared.config.Config.{Config}
 use Rattle.rws_config.specs.declared.limits.TheConstants.{SERVER_PAYLOAD}
 use Rattle.rws_record.specs.Item.{Item}
-use Rattle.rws_record.specs.Item.Item.{Began, ClientBytes, LinkBytes, ClientGone, LinkLost, Replies, Garbles, Strays, Takes, TakesFault, Floods, Puts, Starves}
+use Rattle.rws_record.specs.Item.Item.{Began, ClientBytes, LinkBytes, ClientGone, LinkLost, Comes, Takes, TakesFault, Floods, Puts, Starves}
 use Rattle.rws_record.specs.Item.Put.{Tells, Sends, Drops, Closes}
-use Rattle.rws_record.specs.Values.{exchange, link_held, next_of, rest_of}
-use Rattle.rws_laws.specs.Causes.{AreCaused, came_on}
+use Rattle.rws_record.specs.Values.{kind_of, link_held, linked, sent_for, unread}
+use Rattle.rws_record.proofs.LinkedLemmas.{logs_in, never_logs_in}
+use Rattle.rws_laws.specs.Causes.{AreCaused, IsRead, came_on, with_said}
 use Rattle.rws_laws.specs.Laws.{HeardBytes}
 
 -- Lists of bytes
@@ -83,36 +91,68 @@ module _ (limit : ℕ) (payload : Payload) (next : ℕ) (rest : List ℕ) where
 
 -- What a link holds
 
-behind_fits : (number : ℕ) (bytes : List ℕ) (found : Beginning) → AreBytes bytes → first_payload SERVER_PAYLOAD number bytes ≡ found
-    → AreBytes (rest_of found)
-behind_fits number bytes Nothing fit e = none_fit
-behind_fits number bytes (Faulty fault) fit e = none_fit
-behind_fits number bytes (Whole payload next rest) fit e = (fits SERVER_PAYLOAD payload next rest number bytes fit e).1
+fed_fits : (bytes : List ℕ) (link : LinkState) → AreBytes bytes → AreBytes (unread link) → AreBytes (unread (fed bytes link))
+fed_fits bytes (LogsIn handshake held) fit below = joined held bytes below fit
+fed_fits [] Rests fit below = none_fit
+fed_fits (byte ∷ bytes) Rests fit below = none_fit
+fed_fits bytes (Awaits e held) fit below = joined held bytes below fit
+fed_fits bytes (IsLost cause) fit below = none_fit
+
+settled_fits : (rest : List ℕ) → AreBytes (unread (settled rest))
+settled_fits [] = none_fit
+settled_fits (byte ∷ rest) = none_fit
+
+part_fits : (e : Exchange) (rest : List ℕ) (far : Progress) → AreBytes rest → AreBytes (unread (behind_part e rest far))
+part_fits e rest On fit = fit
+part_fits e rest (Ends outcome) fit = settled_fits rest
+
+replied_fits : (e : Exchange) (payload rest : List ℕ) (number : ℕ) (its : Option Role) (far : Option Progress) → AreBytes rest
+    → AreBytes (unread (replied_by e payload number rest its far).after)
+replied_fits e payload rest number (Some its) (Some far) fit = part_fits (with_part payload number e) rest far fit
+replied_fits e payload rest number (Some its) None fit = none_fit
+replied_fits e payload rest number None (Some far) fit = none_fit
+replied_fits e payload rest number None None fit = none_fit
+
+read_fits : (e : Exchange) (bytes : List ℕ) (found : Beginning) → AreBytes bytes → first_payload SERVER_PAYLOAD e.next bytes ≡ found
+    → AreBytes (unread (read_by (Awaits e bytes) (replied e) found).after)
+read_fits e bytes Nothing fit f = fit
+read_fits e bytes (Faulty fault) fit f = none_fit
+read_fits e bytes (Whole payload next rest) fit f =
+    replied_fits e payload rest next (role e.kind e.sofar payload) (progress e.kind e.sofar payload)
+    (fits SERVER_PAYLOAD payload next rest e.next bytes fit f).1
+
+step_fits : (link : LinkState) → logs_in link ≡ false → AreBytes (unread link) → AreBytes (unread (step link).after)
+step_fits (LogsIn handshake held) n fit = absurd cc
+step_fits Rests n fit = none_fit
+step_fits (Awaits e bytes) n fit = read_fits e bytes (first_payload SERVER_PAYLOAD e.next bytes) fit refl
+step_fits (IsLost cause) n fit = none_fit
+
+-- a link that an item may change
+one_fits : (test : Bool) (changed link : LinkState) → AreBytes (unread changed) → AreBytes (unread link)
+    → AreBytes (unread (if test then changed else link))
+one_fits true changed link c l = c
+one_fits false changed link c l = l
 
 held_fits : (link : ℕ) (past : List Item) → HeardBytes past → AreBytes (link_held link past)
 held_fits link [] heard = none_fit
-held_fits link (LinkBytes from bytes ∷ past) heard = by_test (from == link) (held_fits link past heard.1)
-  where
-    by_test : (test : Bool) → AreBytes (link_held link past) → AreBytes (if test then link_held link past ++ bytes else link_held link past)
-    by_test true below = joined (link_held link past) bytes below heard.0
-    by_test false below = below
-held_fits link (Replies from part ∷ past) heard = by_test (from == link) (held_fits link past heard)
-  where
-    by_test : (test : Bool) → AreBytes (link_held link past)
-        → AreBytes (if test then rest_of (first_payload SERVER_PAYLOAD (next_of (exchange link past)) (link_held link past)) else link_held link past)
-    by_test true below = behind_fits (next_of (exchange link past)) (link_held link past) _ below refl
-    by_test false below = below
-held_fits link (Began first server ∷ past) heard = held_fits link past heard
+held_fits link (LinkBytes from bytes ∷ past) heard =
+    let below = held_fits link past heard.1 in one_fits (from == link) _ _ (fed_fits bytes (linked link past) heard.0 below) below
+held_fits link (Comes from said ∷ past) heard =
+    let below = held_fits link past heard in
+    one_fits (from == link) _ _ (step_fits (linked link past) (never_logs_in link past) below) below
+held_fits link (Began first server ∷ past) heard = one_fits (first == link) Rests _ none_fit (held_fits link past heard)
+held_fits link (Puts (Sends to purpose) ∷ past) heard =
+    one_fits (to == link) (sent (sent_for purpose) (Some (kind_of purpose))) _ none_fit (held_fits link past heard)
 held_fits link (ClientBytes bytes ∷ past) heard = held_fits link past heard
 held_fits link (ClientGone ∷ past) heard = held_fits link past heard
 held_fits link (LinkLost gone ∷ past) heard = held_fits link past heard
-held_fits link (Garbles from fault ∷ past) heard = held_fits link past heard
-held_fits link (Strays from ∷ past) heard = held_fits link past heard
 held_fits link (Takes it number ∷ past) heard = held_fits link past heard
 held_fits link (TakesFault fault ∷ past) heard = held_fits link past heard
 held_fits link (Floods bytes ∷ past) heard = held_fits link past heard
 held_fits link (Starves made ∷ past) heard = held_fits link past heard
-held_fits link (Puts put ∷ past) heard = held_fits link past heard
+held_fits link (Puts (Tells number tell) ∷ past) heard = held_fits link past heard
+held_fits link (Puts (Drops gone cause) ∷ past) heard = held_fits link past heard
+held_fits link (Puts (Closes reason) ∷ past) heard = held_fits link past heard
 
 -- What came of a reply
 
@@ -125,23 +165,28 @@ came_fits config link (Puts (Sends to purpose) ∷ past) caused heard = by_test 
         → AllByRecursion AreBytes (if test then [] else came_on link past)
     by_test true below = tt
     by_test false below = below
-came_fits config link (Replies from part ∷ past) caused heard =
-    by_test (from == link) (came_fits config link past caused.2 heard)
+came_fits config link (Comes from said ∷ past) caused heard =
+    by_test (from == link) said caused.1 (came_fits config link past caused.2 heard)
   where
-    by_test : (test : Bool) → AllByRecursion AreBytes (came_on link past)
-        → AllByRecursion AreBytes (if test then came_on link past ++ part.payload ∷ [] else came_on link past)
-    by_test true below =
-        let read = caused.1 in
-        all_and_one (came_on link past) part.payload below
-        (fits SERVER_PAYLOAD part.payload part.next read.1 read.0.next (link_held from past) (held_fits from past heard) read.4).0
-    by_test false below = below
+    by_said : (said : LinkStep) → IsRead config (Comes from said) past → AllByRecursion AreBytes (came_on link past)
+        → AllByRecursion AreBytes (with_said said (came_on link past))
+    by_said (steps.Part payload its far next more) read below =
+        all_and_one (came_on link past) payload below
+        (fits SERVER_PAYLOAD payload next read.1 read.0.next (link_held from past) (held_fits from past heard) read.4).0
+    by_said (steps.Lost cause) read below = below
+    by_said (steps.Send bytes) read below = below
+    by_said steps.LoggedIn read below = below
+    by_said steps.Idle read below = below
+
+    by_test : (test : Bool) (said : LinkStep) → IsRead config (Comes from said) past → AllByRecursion AreBytes (came_on link past)
+        → AllByRecursion AreBytes (if test then with_said said (came_on link past) else came_on link past)
+    by_test true said read below = by_said said read below
+    by_test false said read below = below
 came_fits config link (Began first server ∷ past) caused heard = came_fits config link past caused.2 heard
 came_fits config link (ClientBytes bytes ∷ past) caused heard = came_fits config link past caused.2 heard
 came_fits config link (LinkBytes from bytes ∷ past) caused heard = came_fits config link past caused.2 heard.1
 came_fits config link (ClientGone ∷ past) caused heard = came_fits config link past caused.2 heard
 came_fits config link (LinkLost gone ∷ past) caused heard = came_fits config link past caused.2 heard
-came_fits config link (Garbles from fault ∷ past) caused heard = came_fits config link past caused.2 heard
-came_fits config link (Strays from ∷ past) caused heard = came_fits config link past caused.2 heard
 came_fits config link (Takes it number ∷ past) caused heard = came_fits config link past caused.2 heard
 came_fits config link (TakesFault fault ∷ past) caused heard = came_fits config link past caused.2 heard
 came_fits config link (Floods bytes ∷ past) caused heard = came_fits config link past caused.2 heard

@@ -1,57 +1,146 @@
--- What came of a reply is what the link that owes it has so far, and the client's form of it grows payload by payload.
-use Rattle.std.proofs.Common.{◌≡◌, ℕ, Bool, true, false, List, [], ◌∷◌, ◌++◌, refl, sym, ap, ◌∙◌, Option, Some, None}
+-- What came of a reply is what the link that owes it has so far.
+use Rattle.std.proofs.Common.{◌≡◌, ℕ, Bool, true, false, List, [], ◌∷◌, ◌++◌, refl, sym, ap, subst, ◌∙◌, inl, inr, Option, Some, None, eqb-true}
 use Rattle.std.specs.Prelude.{◌==◌, if◌then◌else◌}
 use Rattle.rws_reply.specs.declared.kind.Kind.{Kind}
 use Rattle.rws_reply.specs.declared.kind.Progress.{Progress}
-use Rattle.rws_reply.specs.declared.kind.Progress.TheVariants.{More, Whole}
+use Rattle.rws_reply.specs.declared.kind.Progress.TheVariants.{More, Whole as Ends}
 use Rattle.rws_reply.specs.Replies.{Payload}
 use Rattle.rws_reply.specs.ClientForm.{client_reply}
-use Rattle.rws_record.specs.Item.{Item}
-use Rattle.rws_record.specs.Item.Item.{Began, ClientBytes, LinkBytes, ClientGone, LinkLost, Replies, Garbles, Strays, Takes, TakesFault, Puts, Starves, Floods}
+use Rattle.rws_link.specs.declared.step.LinkCause.{LinkCause}
+use Rattle.rws_link.specs.declared.step.LinkStep.{LinkStep}
+use Rattle.rws_link.specs.declared.step.LinkStep.TheVariants as steps
+use Rattle.rws_link.specs.Stepping.{LinkState, LogsIn, Rests, Awaits, IsLost, Exchange, behind_part, fed, sent, settled, step, with_part}
+use Rattle.rws_config.specs.declared.config.Config.{Config}
+use Rattle.rws_record.specs.Item.{Item, Purpose, Put}
+use Rattle.rws_record.specs.Item.Item.{Began, ClientBytes, LinkBytes, ClientGone, LinkLost, Comes, Takes, TakesFault, Puts, Starves}
+use Rattle.rws_record.specs.Item.Purpose.{Asks}
 use Rattle.rws_record.specs.Item.Put.{Tells, Sends, Drops, Closes}
-use Rattle.rws_record.specs.Values.{Exchange, exchange, asked, with_part, goes_on_by, prepared_handle}
-use Rattle.rws_laws.specs.Causes.{came_on}
+use Rattle.rws_record.specs.Values.{awaited, exchange, kind_of, linked, prepared_handle, sent_for}
+use Rattle.rws_record.specs.Record.{IsRecord, IsInput}
+use Rattle.rws_record.specs.Record.IsRecord.{begins, steps as goes, hears, starves}
+use Rattle.rws_record.proofs.LinkedLemmas.{Says, after_loss_is, after_part_is}
+use Rattle.rws_record.proofs.LinkedLemmas.Says.{part, garbled, wrong, again}
+use Rattle.rws_record.proofs.StepLemmas.{Due, Step, of_next}
+use Rattle.rws_record.proofs.StepLemmas.Due.{comes, takes, takes_fault}
+use Rattle.rws_record.proofs.StepLemmas.Step.{pays, sends, floods, reads}
+use Rattle.rws_laws.specs.Causes.{came_on, with_said}
 
 -- nothing came yet
 pub no_form : (kind : Kind) → client_reply kind prepared_handle [] ≡ []
 unfolding client_reply
 no_form kind = refl
 
+-- bytes bring no reply on by themselves
+fed_awaits : (piece : List ℕ) (link : LinkState) → awaited (fed piece link) ≡ awaited link
+fed_awaits piece (LogsIn handshake unread) = refl
+fed_awaits [] Rests = refl
+fed_awaits (byte ∷ bytes) Rests = refl
+fed_awaits piece (Awaits e unread) = refl
+fed_awaits piece (IsLost cause) = refl
+
+pub bytes_keep : (past : List Item) (from : ℕ) (bytes : List ℕ) (link : ℕ) → exchange link (LinkBytes from bytes ∷ past) ≡ exchange link past
+bytes_keep past from bytes link = by_test (from == link)
+  where
+    by_test : (test : Bool) → awaited (if test then fed bytes (linked link past) else linked link past) ≡ awaited (linked link past)
+    by_test true = fed_awaits bytes (linked link past)
+    by_test false = refl
+
+-- what a payload leaves of the reply
+abbrev pub left_by : Progress → Exchange → Option Exchange
+left_by More e = Some e
+left_by (Ends outcome) e = None
+
+settled_awaits : (rest : List ℕ) → awaited (settled rest) ≡ None
+settled_awaits [] = refl
+settled_awaits (byte ∷ rest) = refl
+
+pub part_leaves : (e : Exchange) (rest : List ℕ) (far : Progress) → awaited (behind_part e rest far) ≡ left_by far e
+part_leaves e rest More = refl
+part_leaves e rest (Ends outcome) = settled_awaits rest
+
+-- a link that was lost owes no reply
+pub loss_leaves : (link : LinkState) (said : LinkStep) (cause : LinkCause) → Says link said → said ≡ steps.Lost cause
+    → awaited (step link).after ≡ None
+loss_leaves link said cause it is = ap awaited (after_loss_is link said cause it is)
+
+abbrev pub Came : List Item → Type 0
+Came past = (link : ℕ) (e : Exchange) → exchange link past ≡ Some e → e.sofar ≡ came_on link past
+
+no_reply : {P : Type 0} (e : Exchange) → None ≡ Some e → P
+no_reply e clash = absurd cc
+
+said_came : (past : List Item) (link : ℕ) (state : LinkState) (said : LinkStep) (e : Exchange) → linked link past ≡ state
+    → Says state said → Came past → awaited (step state).after ≡ Some e → e.sofar ≡ with_said said (came_on link past)
+said_came past link state said e is (part {e = x} {unread = unread} {payload = payload} {rest = rest} {number = number} {its = its} {far = far} f r p) came a =
+    by_far far (sym (part_leaves (with_part payload number x) rest far) ∙ sym (ap awaited (after_part_is x unread payload rest number its far f r p)) ∙ a)
+  where
+    by_far : (far : Progress) → left_by far (with_part payload number x) ≡ Some e → e.sofar ≡ came_on link past ++ payload ∷ []
+    by_far More a =
+        let same : with_part payload number x ≡ e = cc in
+        sym (ap (λ (y : Exchange). y.sofar) same) ∙ ap (λ (list : List Payload). list ++ payload ∷ []) (came link x (ap awaited is))
+    by_far (Ends outcome) a = no_reply e a
+said_came past link state said e is (garbled f) came a = no_reply e (sym (loss_leaves state said _ (garbled f) refl) ∙ a)
+said_came past link state said e is (wrong f p) came a = no_reply e (sym (loss_leaves state said _ (wrong f p) refl) ∙ a)
+said_came past link state said e is again came a = no_reply e a
+
+coming_came : (past : List Item) (from : ℕ) (said : LinkStep) → Says (linked from past) said → Came past → Came (Comes from said ∷ past)
+coming_came past from said it came = λ link e a. by_test link e (from == link) refl a
+  where
+    by_test : (link : ℕ) (e : Exchange) (test : Bool) → (from == link) ≡ test
+        → awaited (if test then (step (linked link past)).after else linked link past) ≡ Some e
+        → e.sofar ≡ (if test then with_said said (came_on link past) else came_on link past)
+    by_test link e true t a =
+        let same : from ≡ link = eqb-true from link t in
+        said_came past link (linked link past) said e refl (subst (λ (l : ℕ). Says (linked l past) said) same it) came a
+    by_test link e false t a = came link e a
+
+sending_came : (past : List Item) (to : ℕ) (purpose : Purpose) → Came past → Came (Puts (Sends to purpose) ∷ past)
+sending_came past to purpose came = λ link e a. by_test link e (to == link) a
+  where
+    by_test : (link : ℕ) (e : Exchange) (test : Bool)
+        → awaited (if test then sent (sent_for purpose) (Some (kind_of purpose)) else linked link past) ≡ Some e
+        → e.sofar ≡ (if test then [] else came_on link past)
+    by_test link e true a = let none : [] ≡ e.sofar = ap (λ (x : Option Exchange). sofar_of x) a in sym none
+      where
+        sofar_of : Option Exchange → List Payload
+        sofar_of (Some x) = x.sofar
+        sofar_of None = []
+    by_test link e false a = came link e a
+
+due_came : {config : Config} {past : List Item} {item : Item} → Due config past item → Came past → Came (item ∷ past)
+due_came {past = past} (comes {link = from} {said = said} has a it) came = coming_came past from said it came
+due_came (takes p f) came = came
+due_came (takes_fault p f) came = came
+
+put_came : (past : List Item) (put : Put) → Came past → Came (Puts put ∷ past)
+put_came past (Tells number tell) came = came
+put_came past (Sends to purpose) came = sending_came past to purpose came
+put_came past (Drops given cause) came = came
+put_came past (Closes reason) came = came
+
+step_came : {config : Config} {past : List Item} {item : Item} → Step config past item → Came past → Came (item ∷ past)
+step_came {past = past} (pays {put = put} o) came = put_came past put came
+step_came {past = past} (sends {link = to} {command = command} o n p s k c) came = sending_came past to (Asks command) came
+step_came (floods o n p above) came = came
+step_came (reads o n due) came = due_came due came
+
+input_came : (past : List Item) (item : Item) → IsInput item past → Came past → Came (item ∷ past)
+input_came past (ClientBytes bytes) input came = came
+input_came past (LinkBytes from bytes) input came = λ link e a. came link e (sym (bytes_keep past from bytes link) ∙ a)
+input_came past ClientGone input came = came
+input_came past (LinkLost gone) input came = came
+input_came past _ input came = absurd input
+
+begun_came : (link server : ℕ) → Came (Began link server ∷ [])
+begun_came link server = λ other e a. by_test other e (link == other) a
+  where
+    by_test : (other : ℕ) (e : Exchange) (test : Bool) → awaited (if test then Rests else Rests) ≡ Some e → e.sofar ≡ []
+    by_test other e true a = no_reply e a
+    by_test other e false a = no_reply e a
+
 -- what a link has of the reply that it owes is what came on it since it was asked
-pub sofar_came : (link : ℕ) (past : List Item) (e : Exchange) → exchange link past ≡ Some e → e.sofar ≡ came_on link past
-sofar_came link [] e a = absurd cc
-sofar_came link (Puts (Sends to purpose) ∷ past) e a = by_test (to == link) a (sofar_came link past e)
-  where
-    by_test : (same : Bool) → (if same then Some (asked purpose) else exchange link past) ≡ Some e
-        → (exchange link past ≡ Some e → e.sofar ≡ came_on link past)
-        → e.sofar ≡ (if same then [] else came_on link past)
-    by_test true a below = let is : asked purpose ≡ e = cc in sym (ap (λ (x : Exchange). x.sofar) is)
-    by_test false a below = below a
-sofar_came link (Replies from part ∷ past) e a =
-    by_test (from == link) part.progress (exchange link past) a (sofar_came link past)
-  where
-    by_test : (same : Bool) (far : Option Progress) (mine : Option Exchange)
-        → (if same then goes_on_by far part mine else mine) ≡ Some e
-        → ((e : Exchange) → mine ≡ Some e → e.sofar ≡ came_on link past)
-        → e.sofar ≡ (if same then came_on link past ++ part.payload ∷ [] else came_on link past)
-    by_test true (Some More) (Some before) a below =
-        let is : with_part part before ≡ e = cc in
-        sym (ap (λ (x : Exchange). x.sofar) is) ∙ ap (λ (list : List Payload). list ++ part.payload ∷ []) (below before refl)
-    by_test true (Some More) None a below = absurd cc
-    by_test true (Some (Whole outcome)) mine a below = absurd cc
-    by_test true None mine a below = absurd cc
-    by_test false far mine a below = below e a
-sofar_came link (Began first server ∷ past) e a = sofar_came link past e a
-sofar_came link (ClientBytes bytes ∷ past) e a = sofar_came link past e a
-sofar_came link (LinkBytes from bytes ∷ past) e a = sofar_came link past e a
-sofar_came link (ClientGone ∷ past) e a = sofar_came link past e a
-sofar_came link (LinkLost gone ∷ past) e a = sofar_came link past e a
-sofar_came link (Garbles from fault ∷ past) e a = sofar_came link past e a
-sofar_came link (Strays from ∷ past) e a = sofar_came link past e a
-sofar_came link (Takes it number ∷ past) e a = sofar_came link past e a
-sofar_came link (TakesFault fault ∷ past) e a = sofar_came link past e a
-sofar_came link (Floods bytes ∷ past) e a = sofar_came link past e a
-sofar_came link (Starves made ∷ past) e a = sofar_came link past e a
-sofar_came link (Puts (Tells number tell) ∷ past) e a = sofar_came link past e a
-sofar_came link (Puts (Drops gone cause) ∷ past) e a = sofar_came link past e a
-sofar_came link (Puts (Closes reason) ∷ past) e a = sofar_came link past e a
+pub legal_came : {config : Config} {past : List Item} → IsRecord config past → Came past
+legal_came (begins link server) = begun_came link server
+legal_came {config} (goes {past = past} {item = item} legal next) = step_came (of_next config past item next) (legal_came legal)
+legal_came (hears {past = past} {item = item} legal rests n input) = input_came past item input (legal_came legal)
+legal_came (starves legal once can) = legal_came legal

@@ -12,7 +12,7 @@ use Rattle.rws_record.specs.Rules.{next, owed, farewells}
 use Rattle.rws_record.specs.Record.{IsRecord, IsInput}
 use Rattle.rws_record.specs.Record.IsRecord.{begins, steps, hears, starves}
 use Rattle.rws_record.proofs.StepLemmas.{Due, Step, of_next, rests_owing_nothing}
-use Rattle.rws_record.proofs.StepLemmas.Due.{replies, garbles, strays, takes, takes_fault}
+use Rattle.rws_record.proofs.StepLemmas.Due.{comes, takes, takes_fault}
 use Rattle.rws_record.proofs.StepLemmas.Step.{pays, sends, floods, reads}
 use Rattle.rws_laws.proofs.Sound.{Links, Sound}
 use Rattle.rws_laws.proofs.Sound.Links.{has_one, is_over_now, closes_now}
@@ -53,9 +53,7 @@ leaves_put past (Drops link cause) others o one_link leaves = λ over. put_leave
 
 goes_on_here : {config : Config} {past : List Item} {item : Item} → Due config past item → is_over past ≡ false
     → is_over (item ∷ past) ≡ false
-goes_on_here (replies has a f) n = n
-goes_on_here (garbles has a f) n = n
-goes_on_here (strays has a u) n = n
+goes_on_here (comes has a it) n = n
 goes_on_here (takes p f) n = n
 goes_on_here (takes_fault p f) n = n
 

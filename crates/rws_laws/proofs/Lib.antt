@@ -2,6 +2,7 @@
 pub mod Sound
 pub mod LinksLemmas
 pub mod CameLemmas
+pub mod LostLemmas
 pub mod ReplyLemmas
 pub mod OwedLemmas
 pub mod SoundLemmas

@@ -14,7 +14,7 @@ use Rattle.rws_record.specs.Values.{links, kept_on, sent_on, told_from, is_over,
 use Rattle.rws_record.specs.Rules.{after_loss, after_loss_by, loss_by, is_link, owed}
 use Rattle.rws_record.specs.Record.{IsInput}
 use Rattle.rws_record.proofs.StepLemmas.{Due}
-use Rattle.rws_record.proofs.StepLemmas.Due.{replies, garbles, strays, takes, takes_fault}
+use Rattle.rws_record.proofs.StepLemmas.Due.{comes, takes, takes_fault}
 use Rattle.rws_laws.specs.Causes.{IsCaused}
 use Rattle.rws_laws.proofs.Sound.{Links, kept_there}
 use Rattle.rws_laws.proofs.Sound.Links.{has_one, is_over_now, closes_now}
@@ -64,7 +64,7 @@ pub links_drop : (config : Config) (past : List Item) (link : ℕ) (cause : Drop
     → drop 1 (owed past) ≡ [] → Links past → Links (Puts (Drops link cause) ∷ past)
 links_drop config past link BadWire caused d one_link = links_fault link BadWire refl refl d (kept_there one_link link caused.2) one_link
 links_drop config past link BadReply caused d one_link =
-    links_fault link BadReply refl refl d (kept_there one_link link caused.4) one_link
+    links_fault link BadReply refl refl d (kept_there one_link link caused.6) one_link
 links_drop config past link Unasked caused d one_link = links_fault link Unasked refl refl d (kept_there one_link link caused.1) one_link
 links_drop config past link End caused d one_link = loses link (Puts (Drops link End)) refl refl (λ e. is_over_now e caused.0) one_link
 links_drop config past link _ caused d one_link = absurd caused
@@ -90,9 +90,7 @@ links_close reason (closes_now e other owes) = is_over_now e refl
 
 pub links_due : {config : Config} {past : List Item} {item : Item} → Due config past item → (link : ℕ) → links past ≡ link ∷ []
     → kept_on past ≡ Some link → Links (item ∷ past)
-links_due (replies has a f) link e k = has_one link e k
-links_due (garbles has a f) link e k = has_one link e k
-links_due (strays has a u) link e k = has_one link e k
+links_due (comes has a it) link e k = has_one link e k
 links_due (takes p f) link e k = has_one link e k
 links_due (takes_fault p f) link e k = has_one link e k
 

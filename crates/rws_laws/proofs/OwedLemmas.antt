@@ -7,30 +7,39 @@ use Rattle.rws_wire.specs.declared.fault.WireFault.TheVariants as faults
 use Rattle.rws_wire.specs.declared.drop_cause.DropCause.TheVariants.{BadReply, Unasked, End}
 use Rattle.rws_wire.specs.Payloads.{first_payload}
 use Rattle.rws_wire.specs.Payloads.Beginning.{Whole}
+use Rattle.rws_reply.specs.declared.kind.Outcome.{Outcome}
 use Rattle.rws_reply.specs.declared.kind.Progress.{Progress}
 use Rattle.rws_reply.specs.declared.kind.Progress.TheVariants.{More, Whole as Ends}
 use Rattle.rws_reply.specs.Replies.{Payload, IsReply, Begins}
-use Rattle.rws_reply.specs.Tracking.{progress}
-use Rattle.rws_reply.specs.ClientForm.{client_reply}
+use Rattle.rws_reply.specs.declared.role.Role.{Role}
+use Rattle.rws_reply.specs.Tracking.{progress, role}
+use Rattle.rws_reply.specs.ClientForm.{client_reply, in_role}
 use Rattle.rws_reply.proofs.ProgressLemmas.{progress_is_exact}
 use Rattle.rws_reply.proofs.ClientLemmas.{client_replies_grow}
+use Rattle.rws_link.specs.declared.step.LinkCause.TheVariants as losses
+use Rattle.rws_link.specs.declared.step.LinkStep.{LinkStep}
+use Rattle.rws_link.specs.declared.step.LinkStep.TheVariants as steps
+use Rattle.rws_link.specs.Stepping.{LinkState, Awaits, Exchange, is_some_byte, step, with_part}
 use Rattle.rws_config.specs.declared.config.Config.{Config}
 use Rattle.rws_config.specs.declared.limits.TheConstants.{SERVER_PAYLOAD}
 use Rattle.rws_record.specs.declared.command.Command.{Command}
 use Rattle.rws_record.specs.declared.request.Request.{Request}
 use Rattle.rws_record.specs.declared.request.Request.TheVariants as requests
-use Rattle.rws_record.specs.Item.{Item, Part, Tell}
-use Rattle.rws_record.specs.Item.Item.{Replies, Puts}
+use Rattle.rws_record.specs.Item.{Item, Tell}
+use Rattle.rws_record.specs.Item.Item.{Comes, Puts}
 use Rattle.rws_record.specs.Item.Purpose.{Asks}
 use Rattle.rws_record.specs.Item.Put.{Tells, Drops}
 use Rattle.rws_record.specs.Item.Tell.{Passes}
 use Rattle.rws_record.specs.Requests.{request_of}
 use Rattle.rws_record.specs.Judging.{judged_by, refusal_of}
-use Rattle.rws_record.specs.Values.{links, kept_on, Exchange, exchange, goes_on_by, prepared_handle, form_of, link_held, rest_of, pending, sent_on, reply_number, told, told_from, is_over}
-use Rattle.rws_record.specs.Rules.{is_link, after_loss, after_loss_by, loss_by, after_command, after_fault, after_flood, after_answer, unasked, is_some_byte, part_of}
+use Rattle.rws_record.specs.Values.{links, kept_on, asked_on, awaited, exchange, linked, prepared_handle, link_held, pending, sent_on, reply_number, told, told_from, is_over}
+use Rattle.rws_record.specs.Rules.{is_link, after_loss, after_loss_by, loss_by, after_command, after_fault, after_flood, after_answer, form_of, unasked}
+use Rattle.rws_record.proofs.LinkedLemmas.{after_part_is}
 use Rattle.rws_laws.specs.Causes.{Took, TookFault, Flooded, IsPending, IsOfReply, IsPassed, came_on, lost}
+use Rattle.rws_laws.specs.Causes.IsWrong.{wrong}
+use Rattle.rws_laws.specs.Causes.WasUnasked.{behind_reply, earlier}
 use Rattle.rws_laws.specs.Causes.Asked.{before}
-use Rattle.rws_laws.proofs.CameLemmas.{sofar_came}
+use Rattle.rws_laws.proofs.CameLemmas.{left_by, part_leaves}
 use Rattle.rws_laws.proofs.Sound.{Caused, Links, Sent, ToldBy, Telling, IsAsked, Asking, has_itself, is_that, is_not}
 use Rattle.rws_laws.proofs.Sound.Caused.{nothing, drops, closes, tells}
 use Rattle.rws_laws.proofs.Sound.Links.{has_one, is_over_now, closes_now}
@@ -121,80 +130,114 @@ one_of link command none_yet s p = inl refl
 one_of link command (a_part some) s p = inr s
 one_of link command all s p = absurd cc
 
-module _ (config : Config) (past : List Item) (link next : ℕ) (command : Command) (sofar : List Payload) (payload : Payload)
-    (number : ℕ) where
-  -- the reply that the link owes
-  abbrev pub owes : Exchange
-  owes = record { purpose = Asks command; next = next; sofar = sofar }
+-- what came on the link that has the pending command: this payload, behind what it owes
+pub record CameNext (config : Config) (past : List Item) (link : ℕ) (e : Exchange) (command : Command) (payload rest : Payload) (number : ℕ) : Type 0 where
+  pub has : Contains (links past) link
+  pub owes : exchange link past ≡ Some e
+  pub state : linked link past ≡ Awaits e (link_held link past)
+  pub begins : first_payload SERVER_PAYLOAD e.next (link_held link past) ≡ Whole payload number rest
+  pub kind : e.kind ≡ command.kind
+  pub came : e.sofar ≡ came_on link past
+  pub asked_it : asked_on link past ≡ Some (Asks command)
+  pub pending : pending past ≡ Some command
+  pub sent : sent_on past ≡ Some link
+  pub in_form : client_reply command.kind prepared_handle e.sofar ≡ told past
+  pub telling : Telling past
+  pub its : IsAsked config command past
 
-  abbrev pub part : List ℕ → Part
-  part rest = part_of owes payload number rest
+module _ (config : Config) (past : List Item) (link : ℕ) (e : Exchange) (command : Command) (payload rest : Payload) (number : ℕ)
+    (next : CameNext config past link e command payload rest number) where
+  of_reply : (said : LinkStep) → IsOfReply config link command (Comes link said ∷ past)
+  of_reply said = record {
+    pending = record { waits = next.pending; asked = before next.its.asked };
+    sent = next.sent;
+    one_link = one_of link command next.telling next.sent next.pending;
+  }
 
-  -- what the client gets for it
-  abbrev pub form : Payload
-  form = form_of owes payload
+  -- A payload by which what came is no reply
 
-  pub grown : client_reply command.kind prepared_handle sofar ≡ told past
-      → client_reply command.kind prepared_handle (sofar ++ payload ∷ []) ≡ told past ++ form ∷ []
-  grown formed =
-      client_replies_grow command.kind prepared_handle sofar payload ∙ ap (λ (list : List Payload). list ++ form ∷ []) formed
+  pub wrong_caused : progress e.kind e.sofar payload ≡ None
+      → Caused config (Drops link BadReply ∷ []) (Comes link (steps.Lost losses.BadReply) ∷ past)
+  wrong_caused p =
+      let bad = (progress_is_exact e.kind e.sofar payload).bad p in
+      let itself : (link == link) ≡ true = eq-eqb link link refl in
+      let came : came_on link (Comes link (steps.Lost losses.BadReply) ∷ past) ≡ e.sofar = rw itself (sym next.came) in
+      drops {link = link} {cause = BadReply} (
+        command,
+        payload,
+        of_reply (steps.Lost losses.BadReply),
+        wrong {e = e} {rest = rest} {number = number} next.owes next.begins bad.0 bad.1,
+        (λ begins. bad.0 (rw next.kind (subst (λ (list : List Payload). Begins command.kind (list ++ payload ∷ [])) came begins))),
+        (λ outcome reply. bad.1 outcome
+            (rw next.kind (subst (λ (list : List Payload). IsReply command.kind (list ++ payload ∷ []) outcome) came reply))),
+        next.has,
+      )
 
-  module _ (has : Contains (links past) link) (a : exchange link past ≡ Some owes) (p : pending past ≡ Some command)
-      (s : sent_on past ≡ Some link) (formed : client_reply command.kind prepared_handle sofar ≡ told past)
-      (telling : Telling past) (its : IsAsked config command past) where
-    of_reply : (rest : List ℕ) → IsOfReply config link command (Replies link (part rest) ∷ past)
-    of_reply rest = record {
-      came = refl;
-      pending = record { waits = p; asked = before its.asked };
-      sent = s;
-      one_link = one_of link command telling s p;
-    }
+  -- One that brings the reply on, or ends it
+
+  module _ (its : Role) (far : Progress) (r : role e.kind e.sofar payload ≡ Some its) (p : progress e.kind e.sofar payload ≡ Some far) where
+    abbrev pub said : LinkStep
+    said = steps.Part payload its far number (is_some_byte rest)
+
+    -- what the client gets for it
+    abbrev pub form : Payload
+    form = form_of its payload
+
+    in_role_is : in_role (role command.kind e.sofar payload) prepared_handle payload ≡ form
+    in_role_is = let r : role command.kind e.sofar payload ≡ Some its = rw next.kind at r in rw r refl
+
+    pub grown : client_reply command.kind prepared_handle (e.sofar ++ payload ∷ []) ≡ told past ++ form ∷ []
+    grown =
+        client_replies_grow command.kind prepared_handle e.sofar payload
+        ∙ ap (λ (last : Payload). client_reply command.kind prepared_handle e.sofar ++ last ∷ []) in_role_is
+        ∙ ap (λ (list : List Payload). list ++ form ∷ []) next.in_form
 
     -- what came with it
-    came : (rest : List ℕ) → came_on link (Replies link (part rest) ∷ past) ≡ sofar ++ payload ∷ []
-    came rest =
+    came_is : came_on link (Comes link said ∷ past) ≡ e.sofar ++ payload ∷ []
+    came_is =
         let itself : (link == link) ≡ true = eq-eqb link link refl in
-        rw itself (ap (λ (list : List Payload). list ++ payload ∷ []) (sym (sofar_came link past owes a)))
+        rw itself (ap (λ (list : List Payload). list ++ payload ∷ []) (sym next.came))
 
-    is_passed : (rest : List ℕ) → IsPassed config (reply_number past) link command form (Replies link (part rest) ∷ past)
-    is_passed rest = record {
-      of_reply = of_reply rest;
-      in_form = sym (ap (client_reply command.kind prepared_handle) (came rest) ∙ grown formed);
-      counts = its.counts;
+    is_passed : IsPassed config (reply_number past) link command form (Comes link said ∷ past)
+    is_passed = record {
+      came = refl;
+      of_reply = of_reply said;
+      in_form = sym (ap (client_reply command.kind prepared_handle) came_is ∙ grown);
+      counts = next.its.counts;
     }
 
-    awaits_no_more : (rest : List ℕ) (far : Option Progress) → progress command.kind sofar payload ≡ far
-        → goes_on_by far (part rest) (exchange link past) ≡ None → exchange link (Replies link (part rest) ∷ past) ≡ None
-    awaits_no_more rest far e none =
+    -- what the link owes then
+    pub owes_then : exchange link (Comes link said ∷ past) ≡ left_by far (with_part payload number e)
+    owes_then =
         let itself : (link == link) ≡ true = eq-eqb link link refl in
-        rw itself (ap (λ (q : Option Progress). goes_on_by q (part rest) (exchange link past)) e ∙ none)
-
-    -- a byte behind the last one in the same piece costs the link
-    byte_behind : (tell : Tell) (at : ℕ) (rest : List ℕ) → first_payload SERVER_PAYLOAD next (link_held link past) ≡ Whole payload number rest
-        → exchange link (Replies link (part rest) ∷ past) ≡ None
-        → Caused config (unasked link (is_some_byte rest)) (Puts (Tells at tell) ∷ Replies link (part rest) ∷ past)
-    byte_behind tell at [] f none = nothing
-    byte_behind tell at (byte ∷ rest) f none =
-        let itself : (link == link) ≡ true = eq-eqb link link refl in
-        drops {link = link} {cause = Unasked} ((byte, rest, none, rw (itself, a) (ap rest_of f)), has)
-
-    pub reply_caused : (rest : List ℕ) → first_payload SERVER_PAYLOAD next (link_held link past) ≡ Whole payload number rest
-        → (far : Option Progress) → progress command.kind sofar payload ≡ far
-        → Caused config (after_answer link command form far (is_some_byte rest) (reply_number past)) (Replies link (part rest) ∷ past)
-    reply_caused rest f None e =
-        let bad = (progress_is_exact command.kind sofar payload).bad e in
-        drops {link = link} {cause = BadReply} (
-          command,
-          of_reply rest,
-          (λ begins. bad.0 (subst (Begins command.kind) (came rest) begins)),
-          (λ outcome reply. bad.1 outcome (subst (λ (list : List Payload). IsReply command.kind list outcome) (came rest) reply)),
-          has,
+        rw itself (
+        ap (λ (s : LinkState). awaited (step s).after) next.state
+        ∙ ap awaited (after_part_is e (link_held link past) payload rest number its far next.begins r p)
+        ∙ part_leaves (with_part payload number e) rest far
         )
-    reply_caused rest f (Some More) e =
-        let begins = (progress_is_exact command.kind sofar payload).more.0 e in
-        tells (is_passed rest, subst (Begins command.kind) (sym (came rest)) begins) nothing
-    reply_caused rest f (Some (Ends outcome)) e =
-        let none = awaits_no_more rest (Some (Ends outcome)) e refl in
-        let whole = (progress_is_exact command.kind sofar payload).whole outcome in
-        tells (is_passed rest, subst (λ (list : List Payload). IsReply command.kind list outcome) (sym (came rest)) (whole.0 e), none)
-        (byte_behind (Passes link command form (Some outcome)) (reply_number past) rest f none)
+
+    pub reply_caused : Caused config (after_answer link command form far (is_some_byte rest) (reply_number past)) (Comes link said ∷ past)
+    reply_caused = by_far far p owes_then
+      where
+        -- a byte behind the last one in the same piece costs the link
+        byte_behind : (outcome : Outcome) (item : LinkStep) (rest : List ℕ)
+            → first_payload SERVER_PAYLOAD e.next (link_held link past) ≡ Whole payload number rest
+            → IsReply e.kind (e.sofar ++ payload ∷ []) outcome → exchange link (Comes link item ∷ past) ≡ None
+            → Caused config (unasked link (is_some_byte rest)) (Puts (Tells (reply_number past) (Passes link command form (Some outcome))) ∷ Comes link item ∷ past)
+        byte_behind outcome item [] f reply none = nothing
+        byte_behind outcome item (byte ∷ rest) f reply none =
+            drops {link = link} {cause = Unasked}
+            ((earlier (behind_reply {e = e} {payload = payload} {rest = rest} {byte = byte} {number = number} outcome next.owes f reply), none), next.has)
+
+        by_far : (its_far : Progress) → progress e.kind e.sofar payload ≡ Some its_far
+            → exchange link (Comes link said ∷ past) ≡ left_by its_far (with_part payload number e)
+            → Caused config (after_answer link command form its_far (is_some_byte rest) (reply_number past)) (Comes link said ∷ past)
+        by_far More p now =
+            let begins = (progress_is_exact e.kind e.sofar payload).more.0 p in
+            let begins : Begins command.kind (e.sofar ++ payload ∷ []) = rw next.kind at begins in
+            tells (is_passed, subst (Begins command.kind) (sym came_is) begins) nothing
+        by_far (Ends outcome) p now =
+            let reply : IsReply e.kind (e.sofar ++ payload ∷ []) outcome = ((progress_is_exact e.kind e.sofar payload).whole outcome).0 p in
+            let its_reply : IsReply command.kind (e.sofar ++ payload ∷ []) outcome = rw next.kind at reply in
+            tells (is_passed, subst (λ (list : List Payload). IsReply command.kind list outcome) (sym came_is) its_reply, now)
+            (byte_behind outcome said rest next.begins reply now)

@@ -8,11 +8,12 @@ use Rattle.rws_wire.specs.declared.drop_cause.DropCause.TheVariants.{End}
 use Rattle.rws_reply.specs.Replies.{Payload}
 use Rattle.rws_config.specs.declared.config.Config.{Config}
 use Rattle.rws_record.specs.declared.command.Command.{Command}
-use Rattle.rws_record.specs.Item.{Item, Put}
+use Rattle.rws_link.specs.Stepping.{Exchange}
+use Rattle.rws_record.specs.Item.{Item, Purpose, Put}
 use Rattle.rws_record.specs.Item.Item.{Puts}
 use Rattle.rws_record.specs.Item.Tell.{Passes}
 use Rattle.rws_record.specs.Item.Put.{Tells, Drops}
-use Rattle.rws_record.specs.Values.{Exchange, pending, reply_number, told}
+use Rattle.rws_record.specs.Values.{pending, reply_number, told}
 use Rattle.rws_record.specs.Rules.{Loss, after_loss_by, is_loss, loss_of, after_loss, owed}
 use Rattle.rws_record.specs.Rules.Loss.{CutsReply, HidesOutcome, TakesState, EndsTransaction, StartsReplay, SendsElsewhere, IsForgotten}
 use Rattle.rws_laws.specs.Causes.{number_behind_all}
@@ -36,10 +37,10 @@ still_asked p r t asks = λ command is.
     record { asked = before now.asked; counts = r ∙ now.counts ∙ ap (λ (list : List Payload). number_behind_all list command.number) (sym t) }
 
 -- a payload that was told goes on with it
-pub asked_on : {config : Config} {past : List Item} (number link : ℕ) (command : Command) (payload : Payload)
+pub asks_on : {config : Config} {past : List Item} (number link : ℕ) (command : Command) (payload : Payload)
     → pending past ≡ Some command → number ≡ number_behind_all (told past) command.number → Asking config past
     → Asking config (Puts (Tells number (Passes link command payload None)) ∷ past)
-asked_on {past = past} number link command payload p n asks = λ its is.
+asks_on {past = past} number link command payload p n asks = λ its is.
     let now = asks its is in
     let same : command ≡ its = same_some command its (sym p ∙ is) in
     record {
@@ -79,14 +80,15 @@ sent_there command pending link kept p k = λ other e. (command, p, k ∙ e)
 -- What is awaited
 
 -- what is owed passes the same payloads
-pub owes_same : {exchange : ℕ → Option Exchange} {pending : Option Command} {sent : Option ℕ} {told : List Payload}
+pub owes_same : {exchange : ℕ → Option Exchange} {asked : ℕ → Option Purpose} {pending : Option Command} {sent : Option ℕ} {told : List Payload}
     (owing now : List Put) → passed owing ≡ passed now
-    → WaitsBy exchange pending sent told owing → WaitsBy exchange pending sent told now
+    → WaitsBy exchange asked pending sent told owing → WaitsBy exchange asked pending sent told now
 owes_same {told = list} owing now same waits = λ link e a.
     let awaited = waits link e a in
     record {
       command = awaited.command;
-      is = awaited.is;
+      asked_it = awaited.asked_it;
+      kind = awaited.kind;
       in_form = awaited.in_form ∙ ap (λ (more : List Payload). list ++ more) same;
       waits = awaited.waits;
       sent_there = awaited.sent_there;
@@ -119,7 +121,7 @@ farewells_pass [] = refl
 farewells_pass (link ∷ others) = farewells_pass others
 
 -- nothing was awaited, since nothing is pending
-pub waits_none : {exchange : ℕ → Option Exchange} {pending : Option Command} {sent : Option ℕ} {told : List Payload} {owed : List Put}
-    (now : Option Command) (where_now : Option ℕ) (list : List Payload) (owes : List Put)
-    → pending ≡ None → WaitsBy exchange pending sent told owed → WaitsBy exchange now where_now list owes
+pub waits_none : {exchange : ℕ → Option Exchange} {asked : ℕ → Option Purpose} {pending : Option Command} {sent : Option ℕ} {told : List Payload}
+    {owed : List Put} (now : Option Command) (where_now : Option ℕ) (list : List Payload) (owes : List Put)
+    → pending ≡ None → WaitsBy exchange asked pending sent told owed → WaitsBy exchange asked now where_now list owes
 waits_none now where_now list owes p waits = λ link e a. let awaited = waits link e a in let w = awaited.waits in absurd cc

@@ -8,12 +8,13 @@ use Rattle.rws_reply.specs.Replies.{Payload}
 use Rattle.rws_reply.specs.ClientForm.{client_reply}
 use Rattle.rws_config.specs.declared.config.Config.{Config}
 use Rattle.rws_record.specs.declared.command.Command.{Command}
-use Rattle.rws_record.specs.Item.{Item, Tell, Put}
+use Rattle.rws_link.specs.Stepping.{Exchange}
+use Rattle.rws_record.specs.Item.{Item, Purpose, Tell, Put}
 use Rattle.rws_record.specs.Item.Item.{Puts}
 use Rattle.rws_record.specs.Item.Tell.{Passes}
 use Rattle.rws_record.specs.Item.Put.{Tells, Drops, Closes}
 use Rattle.rws_record.specs.Item.Purpose.{Asks}
-use Rattle.rws_record.specs.Values.{links, kept_on, Exchange, exchange, prepared_handle, pending, sent_on, reply_number, told, told_from, is_over}
+use Rattle.rws_record.specs.Values.{links, kept_on, asked_on, exchange, prepared_handle, pending, sent_on, reply_number, told, told_from, is_over}
 use Rattle.rws_record.specs.Rules.{is_link, owed}
 use Rattle.rws_laws.specs.Causes.{Asked, IsCaused, number_behind_all}
 
@@ -73,18 +74,21 @@ passed (_ ∷ others) = passed others
 
 -- a reply that is awaited is the one to the pending command, and all that came of it was passed on in the client's form, or is
 -- about to be
-pub record AwaitedBy (link : ℕ) (e : Exchange) (pending : Option Command) (sent : Option ℕ) (told : List Payload) (owed : List Put) : Type 0 where
+pub record AwaitedBy (link : ℕ) (e : Exchange) (asked : Option Purpose) (pending : Option Command) (sent : Option ℕ) (told : List Payload)
+    (owed : List Put) : Type 0 where
   pub command : Command
-  pub is : e ≡ record { purpose = Asks command; next = e.next; sofar = e.sofar }
+  pub asked_it : asked ≡ Some (Asks command)
+  pub kind : e.kind ≡ command.kind
   pub in_form : client_reply command.kind prepared_handle e.sofar ≡ told ++ passed owed
   pub waits : pending ≡ Some command
   pub sent_there : sent ≡ Some link
 
-abbrev pub WaitsBy : (ℕ → Option Exchange) → Option Command → Option ℕ → List Payload → List Put → Type 0
-WaitsBy exchange pending sent told owed = (link : ℕ) (e : Exchange) → exchange link ≡ Some e → AwaitedBy link e pending sent told owed
+abbrev pub WaitsBy : (ℕ → Option Exchange) → (ℕ → Option Purpose) → Option Command → Option ℕ → List Payload → List Put → Type 0
+WaitsBy exchange asked pending sent told owed =
+    (link : ℕ) (e : Exchange) → exchange link ≡ Some e → AwaitedBy link e (asked link) pending sent told owed
 
 abbrev pub Waits : List Item → Type 0
-Waits past = WaitsBy (λ link. exchange link past) (pending past) (sent_on past) (told past) (owed past)
+Waits past = WaitsBy (λ link. exchange link past) (λ link. asked_on link past) (pending past) (sent_on past) (told past) (owed past)
 
 pub record Sound (config : Config) (past : List Item) : Type 0 where
   pub one_link : Links past

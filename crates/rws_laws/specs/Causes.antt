@@ -12,22 +12,26 @@ use Rattle.rws_wire.specs.declared.drop_cause.DropCause.TheVariants.{BadWire, Ba
 use Rattle.rws_msgs.specs.declared.status.TheConstants.{AUTOCOMMIT}
 use Rattle.rws_reply.specs.declared.kind.Outcome.{Outcome}
 use Rattle.rws_reply.specs.Replies.{Payload, IsReply, Begins}
-use Rattle.rws_reply.specs.Tracking.{progress}
+use Rattle.rws_reply.specs.Tracking.{progress, role}
 use Rattle.rws_reply.specs.ClientForm.{client_reply}
+use Rattle.rws_link.specs.declared.step.LinkCause.TheVariants as losses
+use Rattle.rws_link.specs.declared.step.LinkStep.{LinkStep}
+use Rattle.rws_link.specs.declared.step.LinkStep.TheVariants as steps
+use Rattle.rws_link.specs.Stepping.{Exchange, Rests}
 use Rattle.rws_config.specs.declared.config.Config.{Config}
 use Rattle.rws_config.specs.declared.limits.TheConstants.{FLOOD_ROOM, SERVER_PAYLOAD}
 use Rattle.rws_record.specs.declared.command.Command.{Command}
 use Rattle.rws_record.specs.declared.proxy_error.ProxyError.TheVariants.{UnknownCommand, NotSupported, PacketsOutOfOrder, CommandTooLarge, OutOfMemory}
 use Rattle.rws_record.specs.declared.request.Request.TheVariants as requests
 use Rattle.rws_record.specs.Item.{Item, Put}
-use Rattle.rws_record.specs.Item.Item.{Began, LinkBytes, LinkLost, Replies, Garbles, Strays, Takes, TakesFault, Puts, Starves, Floods}
+use Rattle.rws_record.specs.Item.Item.{Began, LinkBytes, LinkLost, Comes, Takes, TakesFault, Floods, Puts, Starves}
 use Rattle.rws_record.specs.Item.Judged.{Serves}
 use Rattle.rws_record.specs.Item.Put.{Tells, Sends, Drops, Closes}
 use Rattle.rws_record.specs.Item.Tell.{Passes, Owns, Refuses}
 use Rattle.rws_record.specs.Item.Purpose.{Asks}
 use Rattle.rws_record.specs.Requests.{request_of}
 use Rattle.rws_record.specs.Judging.{judged}
-use Rattle.rws_record.specs.Values.{held, links, kept_on, Exchange, exchange, kind_of, prepared_handle, link_held, pending, sent_on, told, told_from, is_over, is_starved}
+use Rattle.rws_record.specs.Values.{held, links, kept_on, linked, exchange, prepared_handle, link_held, pending, sent_on, told, told_from, is_over, is_starved}
 use Rattle.rws_record.specs.Record.{CanBeMade}
 
 -- What came of the client
@@ -65,22 +69,50 @@ pub data Flooded (config : Config) (bytes : ℕ) : List Item → Type 0 where
 
 -- What came of a link
 
+-- payloads with the one that a link said, if that was one
+abbrev pub with_said : LinkStep → List Payload → List Payload
+with_said (steps.Part payload role progress next behind) so_far = so_far ++ payload ∷ []
+with_said _ so_far = so_far
+
 -- the payloads that came on a link since something was last sent on it, as the server sent them
 abbrev pub came_on : ℕ → List Item → List Payload
 came_on link [] = []
 came_on link (Puts (Sends to purpose) ∷ past) = if to == link then [] else came_on link past
-came_on link (Replies from part ∷ past) = if from == link then came_on link past ++ part.payload ∷ [] else came_on link past
+came_on link (Comes from said ∷ past) = if from == link then with_said said (came_on link past) else came_on link past
 came_on link (_ ∷ past) = came_on link past
+
+abbrev pub replied_by : ℕ → LinkStep → Option ℕ
+replied_by link (steps.Part payload role progress next behind) = Some link
+replied_by link _ = None
 
 -- the link on which a payload of a reply came last
 abbrev pub replied : List Item → Option ℕ
-replied (Replies link part ∷ past) = Some link
+replied (Comes link said ∷ past) = replied_by link said
 replied _ = None
 
--- the fault of a link's packets that came last
-abbrev pub garbled : List Item → Option (ℕ × WireFault)
-garbled (Garbles link fault ∷ past) = Some (link, fault)
-garbled _ = None
+-- The link is lost by the newest item, since its packets are out of order or a payload too long: the bytes that came of the
+-- reply that it owed begin with this fault.
+pub data IsGarbled (link : ℕ) (fault : WireFault) : List Item → Type 0 where
+  garbled : {past : List Item} {e : Exchange} → exchange link past ≡ Some e
+      → first_payload SERVER_PAYLOAD e.next (link_held link past) ≡ Faulty fault
+      → IsGarbled link fault (Comes link (steps.Lost losses.BadWire) ∷ past)
+
+-- The link is lost by the newest item, since this payload came in place of what the reply that it owed lacked.
+pub data IsWrong (link : ℕ) (payload : Payload) : List Item → Type 0 where
+  wrong : {past : List Item} {e : Exchange} {rest : List ℕ} {number : ℕ} → exchange link past ≡ Some e
+      → first_payload SERVER_PAYLOAD e.next (link_held link past) ≡ Whole payload number rest
+      → (¬ Begins e.kind (e.sofar ++ payload ∷ [])) → ((outcome : Outcome) → ¬ IsReply e.kind (e.sofar ++ payload ∷ []) outcome)
+      → IsWrong link payload (Comes link (steps.Lost losses.BadReply) ∷ past)
+
+-- A byte came on the link at some place while its server was asked nothing: where it rested, or behind a whole reply.
+pub data WasUnasked (link : ℕ) : List Item → Type 0 where
+  resting : {past : List Item} {byte : ℕ} {rest : List ℕ} → linked link past ≡ Rests
+      → WasUnasked link (LinkBytes link (byte ∷ rest) ∷ past)
+  behind_reply : {past : List Item} {e : Exchange} {payload rest : List ℕ} {byte number : ℕ} {said : LinkStep} (outcome : Outcome)
+      → exchange link past ≡ Some e
+      → first_payload SERVER_PAYLOAD e.next (link_held link past) ≡ Whole payload number (byte ∷ rest)
+      → IsReply e.kind (e.sofar ++ payload ∷ []) outcome → WasUnasked link (Comes link said ∷ past)
+  earlier : {item : Item} {past : List Item} → WasUnasked link past → WasUnasked link (item ∷ past)
 
 -- the link that was lost last: its server closed it, or it was given up for a fault
 abbrev pub lost : List Item → Option ℕ
@@ -90,14 +122,13 @@ lost (Puts (Drops link BadReply) ∷ past) = Some link
 lost (Puts (Drops link Unasked) ∷ past) = Some link
 lost _ = None
 
--- a byte that nobody awaited came on the link
-abbrev pub HasStrayByte : ℕ → List Item → Type 0
-HasStrayByte link past = (byte : ℕ) × (rest : List ℕ) × (exchange link past ≡ None) × (link_held link past ≡ byte ∷ rest)
+-- a byte came that nobody awaited, and nothing is awaited still
+abbrev pub IsUnasked : ℕ → List Item → Type 0
+IsUnasked link past = WasUnasked link past × (exchange link past ≡ None)
 
--- A payload came last, on the link on which the pending command was sent; all that the client was passed since it was taken
--- up came from there.
+-- The link is the one on which the pending command was sent; all that the client was passed since it was taken up came from
+-- there.
 pub record IsOfReply (config : Config) (link : ℕ) (command : Command) (past : List Item) : Type 0 where
-  pub came : replied past ≡ Some link
   pub pending : IsPending config command past
   pub sent : sent_on past ≡ Some link
   pub one_link : (told past ≡ []) ⊎ (told_from past ≡ Some link)
@@ -107,9 +138,10 @@ abbrev pub number_behind_all : List Payload → ℕ → ℕ
 number_behind_all [] number = number
 number_behind_all (payload ∷ others) number = number_behind_all others (number_behind number payload)
 
--- With this payload the client has been passed all that came of the pending command's reply, in its form: each OK without the
--- session's state, and all else as the server sent it. The numbers count on from the command's.
+-- A payload of the pending command's reply came last, and with it the client has been passed all that came of the reply, in
+-- its form: each OK without the session's state, and all else as the server sent it. The numbers count on from the command's.
 pub record IsPassed (config : Config) (number link : ℕ) (command : Command) (payload : Payload) (past : List Item) : Type 0 where
+  pub came : replied past ≡ Some link
   pub of_reply : IsOfReply config link command past
   pub in_form : told past ++ payload ∷ [] ≡ client_reply command.kind prepared_handle (came_on link past)
   pub counts : number ≡ number_behind_all (told past) command.number
@@ -174,12 +206,13 @@ IsCaused config (Closes SessionState) past =
 IsCaused config (Closes Memory) past = IsStarvedAndTold past
 IsCaused config (Closes _) past = ⊥
 IsCaused config (Drops link BadWire) past =
-    (fault : WireFault) × (garbled past ≡ Some (link, fault)) × Contains (links past) link
--- what came neither is a reply to the command nor begins one
+    (fault : WireFault) × IsGarbled link fault past × Contains (links past) link
+-- what came with this payload neither is a reply to the command nor begins one
 IsCaused config (Drops link BadReply) past =
-    (command : Command) × IsOfReply config link command past × (¬ Begins command.kind (came_on link past))
-    × ((outcome : Outcome) → ¬ IsReply command.kind (came_on link past) outcome) × Contains (links past) link
-IsCaused config (Drops link Unasked) past = HasStrayByte link past × Contains (links past) link
+    (command : Command) × (payload : Payload) × IsOfReply config link command past × IsWrong link payload past
+    × (¬ Begins command.kind (came_on link past ++ payload ∷ []))
+    × ((outcome : Outcome) → ¬ IsReply command.kind (came_on link past ++ payload ∷ []) outcome) × Contains (links past) link
+IsCaused config (Drops link Unasked) past = IsUnasked link past × Contains (links past) link
 IsCaused config (Drops link End) past = (is_over past ≡ true) × Contains (links past) link
 IsCaused config (Drops link _) past = ⊥
 
@@ -194,14 +227,18 @@ abbrev pub IsRead : Config → Item → List Item → Type 0
 IsRead config (Began link server) past = past ≡ []
 IsRead config (LinkBytes link bytes) past = Contains (links past) link
 IsRead config (LinkLost link) past = Contains (links past) link
-IsRead config (Replies link part) past =
+IsRead config (Comes link (steps.Part payload its far next more)) past =
     (e : Exchange) × (rest : List ℕ) × Contains (links past) link × (exchange link past ≡ Some e)
-    × (first_payload SERVER_PAYLOAD e.next (link_held link past) ≡ Whole part.payload part.next rest)
-    × (part.progress ≡ progress (kind_of e.purpose) e.sofar part.payload) × IsBehind part.behind rest
-IsRead config (Garbles link fault) past =
-    (e : Exchange) × Contains (links past) link × (exchange link past ≡ Some e)
-    × (first_payload SERVER_PAYLOAD e.next (link_held link past) ≡ Faulty fault)
-IsRead config (Strays link) past = HasStrayByte link past × Contains (links past) link
+    × (first_payload SERVER_PAYLOAD e.next (link_held link past) ≡ Whole payload next rest)
+    × (role e.kind e.sofar payload ≡ Some its) × (progress e.kind e.sofar payload ≡ Some far) × IsBehind more rest
+IsRead config (Comes link (steps.Lost losses.BadWire)) past =
+    (fault : WireFault) × IsGarbled link fault (Comes link (steps.Lost losses.BadWire) ∷ past) × Contains (links past) link
+IsRead config (Comes link (steps.Lost losses.BadReply)) past =
+    (payload : Payload) × IsWrong link payload (Comes link (steps.Lost losses.BadReply) ∷ past) × Contains (links past) link
+IsRead config (Comes link (steps.Lost losses.Unasked)) past =
+    IsUnasked link (Comes link (steps.Lost losses.Unasked) ∷ past) × Contains (links past) link
+-- no link logs in
+IsRead config (Comes link said) past = ⊥
 IsRead config (Takes it number) past = (payload : Payload) × Took config payload number (Takes it number ∷ past)
 IsRead config (TakesFault fault) past = TookFault config fault (TakesFault fault ∷ past)
 IsRead config (Floods bytes) past = Flooded config bytes (Floods bytes ∷ past)

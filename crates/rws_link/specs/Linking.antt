@@ -1,6 +1,6 @@
 -- What a link keeps, for one who holds it: they need not look inside, as a link that stands for a state goes on as the state
 -- does.
-use Rattle.std.specs.Prelude.{◌≡◌, ◌==◌, ℕ, ◌≤◌, Bool, false, List, [], ◌++◌, length, Option, Some, None, Result, Ok, Err}
+use Rattle.std.specs.Prelude.{true, ◌≡◌, ◌==◌, ℕ, ◌≤◌, Bool, false, List, [], ◌++◌, length, Option, Some, None, Result, Ok, Err}
 use Rattle.rws_wire.specs.declared.fault.NextError.{NextError}
 use Rattle.rws_wire.specs.declared.fault.NextError.TheVariants.{Fault, OutOfMemory}
 use Rattle.rws_wire.specs.declared.payload.Payload.{Payload}
@@ -40,6 +40,13 @@ IsReady (Ready unread) = Unit {0}
 IsReady (Opening handshake unread) = ⊥
 IsReady (Awaiting awaited unread) = ⊥
 IsReady (Lost cause unread) = ⊥
+
+-- a reply is awaited
+abbrev pub is_awaiting : Linking → Bool
+is_awaiting (Opening handshake unread) = false
+is_awaiting (Ready unread) = false
+is_awaiting (Awaiting awaited unread) = true
+is_awaiting (Lost cause unread) = false
 
 -- the link that stands for a state takes a step of the state
 abbrev pub Takes : Step → LinkStep → Linking → Type 0

@@ -6,7 +6,7 @@ ghost use Rattle.rws_wire.specs.Packets.{spelling};
 ghost use Rattle.rws_link.specs.declared.handshake.Handshake.TheVariants.{Greeting as AwaitsGreeting};
 ghost use Rattle.rws_link.specs.Handshake.{due, reaction};
 ghost use Rattle.rws_link.specs.Stepping.{Exchange, LinkState, LogsIn, Rests, Awaits, fed, opened, readied, reacted, replied, sent, settled, step, is_new, is_some_byte, lost};
-ghost use Rattle.rws_link.specs.Linking.{Arrives, CameWhole, IsRead, IsReady, Opening, Ready, Awaiting, Takes, awaited_of, kept, nothing_came, taken};
+ghost use Rattle.rws_link.specs.Linking.{Arrives, CameWhole, IsRead, IsReady, Opening, Ready, Awaiting, Takes, awaited_of, is_awaiting, kept, nothing_came, taken};
 
 use crate::handshake::{Handshake, Reaction};
 use crate::phase::{Awaited, Phase};
@@ -107,6 +107,13 @@ impl Link {
             Phase::Ready => true,
             Phase::Opening { .. } | Phase::Awaiting(_) | Phase::Lost(_) => false,
         }
+    }
+
+    /// Whether a reply to a command is awaited.
+    pub fn is_awaiting(&self) -> bool
+        ensures { result ≡ is_awaiting self.now }
+    {
+        matches!(self.phase, Phase::Awaiting(_))
     }
 
     /// Appends the packets of a command to `out`, and awaits a reply of this kind; None for a command that has none. `Err`

@@ -1,4 +1,6 @@
 -- how a record, and a run, goes on
+pub mod LinkedLemmas
+pub mod WithoutLemmas
 pub mod StepLemmas
 pub mod RestLemmas
 pub mod EntryLemmas

@@ -5,7 +5,7 @@ use Rattle.std.specs.Option.{option_map}
 use Rattle.std.proofs.lemmas.List.Elements.{Contains-append_cases}
 use Rattle.rws_config.specs.declared.config.Config.{Config}
 use Rattle.rws_record.specs.Item.{Item}
-use Rattle.rws_record.specs.Item.Item.{Began, ClientBytes, LinkBytes, ClientGone, LinkLost, Replies, Garbles, Strays, Takes, TakesFault, Puts, Starves, Floods}
+use Rattle.rws_record.specs.Item.Item.{Began, ClientBytes, LinkBytes, ClientGone, LinkLost, Comes, Takes, TakesFault, Floods, Puts, Starves}
 use Rattle.rws_record.specs.Item.Put.{Tells, Sends, Drops, Closes}
 use Rattle.rws_record.specs.Values.{links, opens}
 use Rattle.rws_record.specs.Run.{Entry, IsRun, record_of, link_by, last_link}
@@ -57,9 +57,7 @@ opened (ClientBytes bytes ∷ past) link has = below (opened past link has)
 opened (LinkBytes from bytes ∷ past) link has = below (opened past link has)
 opened (ClientGone ∷ past) link has = below (opened past link has)
 opened (LinkLost lost ∷ past) link has = below (opened past link (filtered _ (links past) link has))
-opened (Replies from part ∷ past) link has = below (opened past link has)
-opened (Garbles from fault ∷ past) link has = below (opened past link has)
-opened (Strays from ∷ past) link has = below (opened past link has)
+opened (Comes from said ∷ past) link has = below (opened past link has)
 opened (Takes judged number ∷ past) link has = below (opened past link has)
 opened (TakesFault fault ∷ past) link has = below (opened past link has)
 opened (Floods bytes ∷ past) link has = below (opened past link has)

@@ -6,28 +6,26 @@ use Rattle.std.proofs.lemmas.Bool.{cases_lt, lt-ltb, le-ltb}
 use Rattle.rws_wire.specs.declared.fault.WireFault.{WireFault}
 use Rattle.rws_wire.specs.Payloads.{Beginning, first_payload}
 use Rattle.rws_wire.specs.Payloads.Beginning.{Nothing, Whole, Faulty}
+use Rattle.rws_link.specs.declared.step.LinkStep.{LinkStep}
+use Rattle.rws_link.specs.declared.step.LinkStep.TheVariants as steps
+use Rattle.rws_link.specs.Stepping.{step}
 use Rattle.rws_config.specs.declared.config.Config.{Config}
-use Rattle.rws_config.specs.declared.limits.TheConstants.{SERVER_PAYLOAD}
 use Rattle.rws_record.specs.declared.command.Command.{Command}
 use Rattle.rws_record.specs.Item.{Item, Put}
-use Rattle.rws_record.specs.Item.Item.{ClientBytes, LinkBytes, ClientGone, LinkLost, Replies, Garbles, Strays, Takes, TakesFault, Floods, Puts}
+use Rattle.rws_record.specs.Item.Item.{ClientBytes, LinkBytes, ClientGone, LinkLost, Comes, Takes, TakesFault, Floods, Puts}
 use Rattle.rws_record.specs.Item.Put.{Sends}
 use Rattle.rws_record.specs.Item.Purpose.{Asks}
 use Rattle.rws_record.specs.Judging.{judged}
-use Rattle.rws_record.specs.Values.{opens, held, links, contains, kept_on, Exchange, exchange, link_held, pending, sent_on, is_over}
-use Rattle.rws_record.specs.Rules.{next, next_by, owed, due, due_send, due_flood, flood_by, flood_limit, due_arrival, due_take, send_by, arrival, part_of, reply_by, take_by, ◌or◌}
+use Rattle.rws_record.specs.Values.{opens, held, links, linked, kept_on, pending, sent_on, is_over}
+use Rattle.rws_record.specs.Rules.{next, next_by, owed, due, due_send, due_flood, flood_by, flood_limit, due_arrival, due_take, send_by, is_free, coming, take_by, ◌or◌}
+use Rattle.rws_record.proofs.LinkedLemmas.{Says, says, never_logs_in}
 use Rattle.rws_record.specs.Record.{IsInput}
 
 -- what is due of bytes that came
 pub data Due (config : Config) (past : List Item) : Item → Type 0 where
-  replies : {link : ℕ} {e : Exchange} {payload rest : List ℕ} {number : ℕ} → Contains (links past) link
-      → exchange link past ≡ Some e
-      → first_payload SERVER_PAYLOAD e.next (link_held link past) ≡ Whole payload number rest
-      → Due config past (Replies link (part_of e payload number rest))
-  garbles : {link : ℕ} {e : Exchange} {fault : WireFault} → Contains (links past) link → exchange link past ≡ Some e
-      → first_payload SERVER_PAYLOAD e.next (link_held link past) ≡ Faulty fault → Due config past (Garbles link fault)
-  strays : {link byte : ℕ} {rest : List ℕ} → Contains (links past) link → exchange link past ≡ None
-      → link_held link past ≡ byte ∷ rest → Due config past (Strays link)
+  comes : {link : ℕ} {said : LinkStep} → Contains (links past) link → (step (linked link past)).answer ≡ said
+      → Says (linked link past) said
+      → Due config past (Comes link said)
   takes : {payload rest : List ℕ} {number : ℕ} → pending past ≡ None
       → first_payload config.command_bytes 0 (held config past) ≡ Whole payload number rest
       → Due config past (Takes (judged payload number) number)
@@ -38,7 +36,7 @@ pub data Due (config : Config) (past : List Item) : Item → Type 0 where
 pub data Step (config : Config) (past : List Item) : Item → Type 0 where
   pays : {put : Put} {others : List Put} → owed past ≡ put ∷ others → Step config past (Puts put)
   sends : {link : ℕ} {command : Command} → owed past ≡ [] → is_over past ≡ false → pending past ≡ Some command
-      → sent_on past ≡ None → kept_on past ≡ Some link → contains link (links past) ≡ true
+      → sent_on past ≡ None → kept_on past ≡ Some link → is_free link past ≡ true
       → Step config past (Puts (Sends link (Asks command)))
   floods : {command : Command} → owed past ≡ [] → is_over past ≡ false → pending past ≡ Some command
       → flood_limit config < length (held config past) → Step config past (Floods (flood_limit config + 1))
@@ -60,39 +58,45 @@ neither None b e = (refl, e)
 module _ (config : Config) (past : List Item) (item : Item) where
   of_send : (command : Option Command) (sent kept : Option ℕ) → owed past ≡ [] → is_over past ≡ false
       → pending past ≡ command → sent_on past ≡ sent → kept_on past ≡ kept
-      → send_by command sent kept (links past) ≡ Some item → Step config past item
+      → send_by command sent kept (λ link. is_free link past) ≡ Some item → Step config past item
   of_send None sent kept o n p s k e = absurd cc
   of_send (Some command) (Some to) kept o n p s k e = absurd cc
   of_send (Some command) None None o n p s k e = absurd cc
-  of_send (Some command) None (Some link) o n p s k e = by_test (contains link (links past)) refl e
+  of_send (Some command) None (Some link) o n p s k e = by_test (is_free link past) refl e
     where
-      by_test : (test : Bool) → contains link (links past) ≡ test
+      by_test : (test : Bool) → is_free link past ≡ test
           → (if test then Some (Puts (Sends link (Asks command))) else None) ≡ Some item → Step config past item
       by_test true t e = let same : Puts (Sends link (Asks command)) ≡ item = cc in subst (Step config past) same (sends o n p s k t)
       by_test false t e = absurd cc
 
-  of_reply : (link : ℕ) (e : Exchange) (found : Beginning) → Contains (links past) link → exchange link past ≡ Some e
-      → first_payload SERVER_PAYLOAD e.next (link_held link past) ≡ found → reply_by link e found ≡ Some item
-      → Due config past item
-  of_reply link e Nothing has a f is = absurd cc
-  of_reply link e (Whole payload number rest) has a f is =
-      let same : Replies link (part_of e payload number rest) ≡ item = cc in as_due same (replies has a f)
-  of_reply link e (Faulty fault) has a f is = let same : Garbles link fault ≡ item = cc in as_due same (garbles has a f)
+  its_comes : (link : ℕ) (said : LinkStep) → Contains (links past) link → (step (linked link past)).answer ≡ said
+      → Says (linked link past) said → Some (Comes link said) ≡ Some item → Due config past item
+  its_comes link said has a it e = let same : Comes link said ≡ item = cc in as_due same (comes has a it)
 
-  of_arrival : (link : ℕ) (e : Option Exchange) (bytes : List ℕ) → Contains (links past) link → exchange link past ≡ e
-      → link_held link past ≡ bytes → arrival link e bytes ≡ Some item → Due config past item
-  of_arrival link (Some e) bytes has a h is =
-      of_reply link e (first_payload SERVER_PAYLOAD e.next bytes) has a (ap (first_payload SERVER_PAYLOAD e.next) h) is
-  of_arrival link None [] has a h is = absurd cc
-  of_arrival link None (byte ∷ rest) has a h is = let same : Strays link ≡ item = cc in as_due same (strays has a h)
+  of_coming : (link : ℕ) (said : LinkStep) → Contains (links past) link → (step (linked link past)).answer ≡ said
+      → coming link said ≡ Some item → Due config past item
+  of_coming link said has a e = by_says said a (says (linked link past) said (never_logs_in link past) a) e
+    where
+      by_says : (said : LinkStep) → (step (linked link past)).answer ≡ said → (said ≡ steps.Idle) ⊎ Says (linked link past) said
+          → coming link said ≡ Some item → Due config past item
+      by_says steps.Idle a it e = absurd cc
+      by_says (steps.Send bytes) a (inl idle) e = absurd cc
+      by_says (steps.Send bytes) a (inr it) e = its_comes link (steps.Send bytes) has a it e
+      by_says steps.LoggedIn a (inl idle) e = absurd cc
+      by_says steps.LoggedIn a (inr it) e = its_comes link steps.LoggedIn has a it e
+      by_says (steps.Part payload role progress next behind) a (inl idle) e = absurd cc
+      by_says (steps.Part payload role progress next behind) a (inr it) e =
+          its_comes link (steps.Part payload role progress next behind) has a it e
+      by_says (steps.Lost cause) a (inl idle) e = absurd cc
+      by_says (steps.Lost cause) a (inr it) e = its_comes link (steps.Lost cause) has a it e
 
   -- a list of links of which each is one of the session's
   of_arrivals : (some : List ℕ) → ((link : ℕ) → Contains some link → Contains (links past) link)
       → due_arrival some past ≡ Some item → Due config past item
   of_arrivals [] has e = absurd cc
   of_arrivals (link ∷ others) has e =
-      elim (either (arrival link (exchange link past) (link_held link past)) (due_arrival others past) item e) [
-        | inl here ↦ of_arrival link (exchange link past) (link_held link past) (has link (0, omega arith, refl)) refl refl here
+      elim (either (coming link (step (linked link past)).answer) (due_arrival others past) item e) [
+        | inl here ↦ of_coming link (step (linked link past)).answer (has link (0, omega arith, refl)) refl here
         | inr there ↦ of_arrivals others (λ other at. has other (suc at.0, omega arith, at.2)) there
       ]
 
@@ -161,9 +165,7 @@ rests_with_nothing_due config past e over = by_owed (owed past) e
 -- No step of a session's own opens a link.
 
 due_opens_none : {config : Config} {past : List Item} {item : Item} → Due config past item → opens item ≡ None
-due_opens_none (replies has a f) = refl
-due_opens_none (garbles has a f) = refl
-due_opens_none (strays has a u) = refl
+due_opens_none (comes has a it) = refl
 due_opens_none (takes p f) = refl
 due_opens_none (takes_fault p f) = refl
 

@@ -10,15 +10,13 @@ use Rattle.rws_record.specs.Record.{IsRecord, IsInput, GoesOn}
 use Rattle.rws_record.specs.Record.IsRecord.{begins, steps, hears, starves}
 use Rattle.rws_record.specs.Record.GoesOn.{stays, then as goes_then}
 use Rattle.rws_record.proofs.StepLemmas.{Due, Step, of_next, rests_owing_nothing}
-use Rattle.rws_record.proofs.StepLemmas.Due.{replies, garbles, strays, takes, takes_fault}
+use Rattle.rws_record.proofs.StepLemmas.Due.{comes, takes, takes_fault}
 use Rattle.rws_record.proofs.StepLemmas.Step.{pays, sends, floods, reads}
 
 -- No step, and nothing that is heard, is want of memory
 
 due_starved : {config : Config} {past : List Item} {item : Item} → Due config past item → is_starved (item ∷ past) ≡ is_starved past
-due_starved (replies has a f) = refl
-due_starved (garbles has a f) = refl
-due_starved (strays has a h) = refl
+due_starved (comes has a it) = refl
 due_starved (takes p f) = refl
 due_starved (takes_fault p f) = refl
 

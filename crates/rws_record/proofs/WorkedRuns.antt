@@ -436,7 +436,7 @@ want_for_a_command : Does
     from_client 2 (codes "010000000e") ∷ on_link 1 (codes "0700000100000002000000") ∷ End ∷ [])
     (to_client 1 (codes "16000001ff0d042348593030316f7574206f66206d656d6f7279") ∷ Close 1 Memory ∷ Drop 1 AtEnd ∷
     to_client 2 (codes "0700000100000002000000") ∷ [])
-unfolding lenenc lenenc_bytes full_packet spelling number_behind payload_behind first_payload eof_at err_at err_code err_bytes bytes_at number_at fixed_at lenenc_at text_at text_bytes ended state_at texts_at ok_at ok_status texts_bytes ok_bytes prepare_ok_at eof_status prepared_counts column_count is_definition is_row progress
+unfolding lenenc lenenc_bytes full_packet spelling number_behind payload_behind first_payload eof_at err_at err_code err_bytes bytes_at number_at fixed_at lenenc_at text_at text_bytes ended state_at texts_at ok_at ok_status texts_bytes ok_bytes prepare_ok_at eof_status prepared_counts column_count is_definition is_row progress role client_ok client_form
 want_for_a_command =
     wants_in 2 1 true (Begin 1 0 ∷ Begin 2 1 ∷ []) (from_client 1 (codes "020000000378"))
     (from_client 1 (codes "010000000e") ∷ from_client 2 (codes "010000000e") ∷
@@ -446,7 +446,7 @@ want_for_a_command =
 want_for_bytes : Does
     (Begin 1 0 ∷ from_client 1 (codes "02") ∷ End ∷ [])
     (to_client 1 (codes "16000001ff0d042348593030316f7574206f66206d656d6f7279") ∷ Close 1 Memory ∷ Drop 1 AtEnd ∷ [])
-unfolding lenenc lenenc_bytes full_packet spelling number_behind payload_behind first_payload eof_at err_at err_code err_bytes bytes_at number_at fixed_at lenenc_at text_at text_bytes ended state_at texts_at ok_at ok_status texts_bytes ok_bytes prepare_ok_at eof_status prepared_counts column_count is_definition is_row progress
+unfolding lenenc lenenc_bytes full_packet spelling number_behind payload_behind first_payload eof_at err_at err_code err_bytes bytes_at number_at fixed_at lenenc_at text_at text_bytes ended state_at texts_at ok_at ok_status texts_bytes ok_bytes prepare_ok_at eof_status prepared_counts column_count is_definition is_row progress role client_ok client_form
 want_for_bytes = wants_in 1 1 true (Begin 1 0 ∷ []) (from_client 1 (codes "02")) (End ∷ []) _ refl refl refl tt refl refl
 
 -- behind a payload of a reply: what was told stands
@@ -464,21 +464,21 @@ want_in_a_reply =
 want_at_a_loss : Does
     (Begin 1 0 ∷ LinkGone 1 ∷ End ∷ [])
     (to_client 1 (codes "16000001ff0d042348593030316f7574206f66206d656d6f7279") ∷ Close 1 Memory ∷ [])
-unfolding lenenc lenenc_bytes full_packet spelling number_behind payload_behind first_payload eof_at err_at err_code err_bytes bytes_at number_at fixed_at lenenc_at text_at text_bytes ended state_at texts_at ok_at ok_status texts_bytes ok_bytes prepare_ok_at eof_status prepared_counts column_count is_definition is_row progress
+unfolding lenenc lenenc_bytes full_packet spelling number_behind payload_behind first_payload eof_at err_at err_code err_bytes bytes_at number_at fixed_at lenenc_at text_at text_bytes ended state_at texts_at ok_at ok_status texts_bytes ok_bytes prepare_ok_at eof_status prepared_counts column_count is_definition is_row progress role client_ok client_form
 want_at_a_loss = wants_in 1 1 true (Begin 1 0 ∷ []) (LinkGone 1) (End ∷ []) _ refl refl refl tt refl refl
 
 -- a session that was closed already gives up its link
 want_behind_a_close : Does
     (Begin 1 0 ∷ from_client 1 (codes "0100000001") ∷ End ∷ [])
     (Close 1 Quit ∷ Drop 1 AtEnd ∷ [])
-unfolding lenenc lenenc_bytes full_packet spelling number_behind payload_behind first_payload eof_at err_at err_code err_bytes bytes_at number_at fixed_at lenenc_at text_at text_bytes ended state_at texts_at ok_at ok_status texts_bytes ok_bytes prepare_ok_at eof_status prepared_counts column_count is_definition is_row progress
+unfolding lenenc lenenc_bytes full_packet spelling number_behind payload_behind first_payload eof_at err_at err_code err_bytes bytes_at number_at fixed_at lenenc_at text_at text_bytes ended state_at texts_at ok_at ok_status texts_bytes ok_bytes prepare_ok_at eof_status prepared_counts column_count is_definition is_row progress role client_ok client_form
 want_behind_a_close = wants_in 3 1 true (Begin 1 0 ∷ []) (from_client 1 (codes "0100000001")) (End ∷ []) _ refl refl refl tt refl refl
 
 -- for the session itself: its client is told nothing
 want_for_a_session : Does
     (Begin 1 0 ∷ Begin 2 0 ∷ from_client 1 (codes "010000000e") ∷ from_client 2 (codes "010000000e") ∷ End ∷ [])
     (Close 1 Memory ∷ Drop 1 AtEnd ∷ to_client 2 (codes "0700000100000002000000") ∷ [])
-unfolding lenenc lenenc_bytes full_packet spelling number_behind payload_behind first_payload eof_at err_at err_code err_bytes bytes_at number_at fixed_at lenenc_at text_at text_bytes ended state_at texts_at ok_at ok_status texts_bytes ok_bytes prepare_ok_at eof_status prepared_counts column_count is_definition is_row progress
+unfolding lenenc lenenc_bytes full_packet spelling number_behind payload_behind first_payload eof_at err_at err_code err_bytes bytes_at number_at fixed_at lenenc_at text_at text_bytes ended state_at texts_at ok_at ok_status texts_bytes ok_bytes prepare_ok_at eof_status prepared_counts column_count is_definition is_row progress role client_ok client_form
 want_for_a_session =
     wants_in 1 1 false [] (Begin 1 0) (Begin 2 0 ∷ from_client 1 (codes "010000000e") ∷ from_client 2 (codes "010000000e") ∷ End ∷ [])
     _ refl refl refl tt refl refl

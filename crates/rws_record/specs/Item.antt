@@ -5,7 +5,7 @@ use Rattle.rws_wire.specs.declared.close_reason.CloseReason.{CloseReason}
 use Rattle.rws_wire.specs.declared.drop_cause.DropCause.{DropCause}
 use Rattle.rws_wire.specs.declared.fault.WireFault.{WireFault}
 use Rattle.rws_reply.specs.declared.kind.Outcome.{Outcome}
-use Rattle.rws_reply.specs.declared.kind.Progress.{Progress}
+use Rattle.rws_link.specs.declared.step.LinkStep.{LinkStep}
 use Rattle.rws_record.specs.declared.command.Command.{Command}
 use Rattle.rws_record.specs.declared.proxy_error.ProxyError.{ProxyError}
 
@@ -13,16 +13,6 @@ use Rattle.rws_record.specs.declared.proxy_error.ProxyError.{ProxyError}
 pub data Purpose : Type 0 where
   -- the client asked for it
   Asks : Command → Purpose
-
--- a payload of a reply, as the server sent it
-pub record Part : Type 0 where
-  pub payload : List ℕ
-  -- the number that the packet behind it is to have
-  pub next : ℕ
-  -- how far it brings the reply; None where the payloads so far begin none
-  pub progress : Option Progress
-  -- the same piece holds a byte behind it
-  pub behind : Bool
 
 -- what the client is told
 pub data Tell : Type 0 where
@@ -59,11 +49,8 @@ pub data Item : Type 0 where
   LinkBytes : (link : ℕ) → List ℕ → Item
   ClientGone : Item
   LinkLost : (link : ℕ) → Item
-  -- what a link's bytes complete: a payload of the reply that is awaited there, or a fault of its packets; or bytes that
-  -- nobody awaits
-  Replies : (link : ℕ) → Part → Item
-  Garbles : (link : ℕ) → WireFault → Item
-  Strays : (link : ℕ) → Item
+  -- what came of a link: a payload of the reply that it owes, as the server sent it, or that it is lost
+  Comes : (link : ℕ) → LinkStep → Item
   -- the session's own steps: it takes up the client's next command, whose reply begins with this number, or the fault of
   -- the client's packets; it notes that the client sent on, behind a command that isn't answered, until so many bytes were
   -- held, which is one more than it may; and it gives something out

@@ -10,22 +10,29 @@ use Rattle.rws_wire.specs.declared.fault.WireFault.{WireFault}
 use Rattle.rws_wire.specs.declared.fault.WireFault.TheVariants as faults
 use Rattle.rws_wire.specs.declared.close_reason.CloseReason.TheVariants as reasons
 use Rattle.rws_wire.specs.declared.drop_cause.DropCause.{DropCause}
-use Rattle.rws_wire.specs.declared.drop_cause.DropCause.TheVariants.{BadWire, BadReply, Unasked, End, Kept, Replay}
+use Rattle.rws_wire.specs.declared.drop_cause.DropCause.TheVariants as causes
+use Rattle.rws_wire.specs.declared.drop_cause.DropCause.TheVariants.{Unasked, End, Kept, Replay}
 use Rattle.rws_reply.specs.declared.kind.Progress.{Progress}
 use Rattle.rws_reply.specs.declared.kind.Progress.TheVariants.{More, Whole as Ends}
-use Rattle.rws_reply.specs.Tracking.{progress}
+use Rattle.rws_reply.specs.declared.role.Role.{Role}
+use Rattle.rws_reply.specs.ClientForm.{client_form}
+use Rattle.rws_link.specs.declared.step.LinkCause.{LinkCause}
+use Rattle.rws_link.specs.declared.step.LinkCause.TheVariants as losses
+use Rattle.rws_link.specs.declared.step.LinkStep.{LinkStep}
+use Rattle.rws_link.specs.declared.step.LinkStep.TheVariants as steps
+use Rattle.rws_link.specs.Stepping.{LinkState, LogsIn, Rests, Awaits, IsLost, step}
 use Rattle.rws_config.specs.declared.config.Config.{Config}
-use Rattle.rws_config.specs.declared.limits.TheConstants.{FLOOD_ROOM, SERVER_PAYLOAD}
+use Rattle.rws_config.specs.declared.limits.TheConstants.{FLOOD_ROOM}
 use Rattle.rws_record.specs.declared.command.Command.{Command}
 use Rattle.rws_record.specs.declared.proxy_error.ProxyError.TheVariants.{PacketsOutOfOrder, CommandTooLarge, OutOfMemory}
-use Rattle.rws_record.specs.Item.{Item, Part, Purpose, Judged, Put}
-use Rattle.rws_record.specs.Item.Item.{Began, ClientBytes, LinkBytes, ClientGone, LinkLost, Replies, Garbles, Strays, Takes, TakesFault, Puts, Starves, Floods}
+use Rattle.rws_record.specs.Item.{Item, Purpose, Judged, Put}
+use Rattle.rws_record.specs.Item.Item.{Began, ClientBytes, LinkBytes, ClientGone, LinkLost, Comes, Takes, TakesFault, Floods, Puts, Starves}
 use Rattle.rws_record.specs.Item.Judged.{Leaves, Pings, IsRefused, Serves}
 use Rattle.rws_record.specs.Item.Put.{Tells, Sends, Drops, Closes}
 use Rattle.rws_record.specs.Item.Tell.{Passes, Owns, Refuses}
 use Rattle.rws_record.specs.Item.Purpose.{Asks}
 use Rattle.rws_record.specs.Judging.{judged}
-use Rattle.rws_record.specs.Values.{held, links, contains, kept_on, Exchange, exchange, kind_of, form_of, link_held, pending, sent_on, told_from, reply_number, is_over}
+use Rattle.rws_record.specs.Values.{held, links, contains, kept_on, linked, asked_on, prepared_handle, pending, sent_on, told_from, reply_number, is_over}
 
 abbrev pub is_link : ℕ → Option ℕ → Bool
 is_link link (Some other) = other == link
@@ -131,19 +138,37 @@ unasked link true = Drops link Unasked ∷ []
 unasked link false = []
 
 -- A payload of the reply to the client's command goes to the client in its form; behind the last one a further byte costs
--- the link. A payload by which the reply is none costs the link too.
-abbrev pub after_answer : ℕ → Command → (form : List ℕ) → Option Progress → (behind : Bool) → (number : ℕ) → List Put
-after_answer link command form None behind number = Drops link BadReply ∷ []
-after_answer link command form (Some More) behind number = Tells number (Passes link command form None) ∷ []
-after_answer link command form (Some (Ends outcome)) behind number =
+-- the link.
+abbrev pub after_answer : ℕ → Command → (form : List ℕ) → Progress → (behind : Bool) → (number : ℕ) → List Put
+after_answer link command form More behind number = Tells number (Passes link command form None) ∷ []
+after_answer link command form (Ends outcome) behind number =
     Tells number (Passes link command form (Some outcome)) ∷ unasked link behind
 
-abbrev pub after_part : ℕ → Part → Option Exchange → (number : ℕ) → List Put
-after_part link part None number = []
-after_part link part (Some e) number = after_purpose (form_of e part.payload) e.purpose
-  where
-    after_purpose : List ℕ → Purpose → List Put
-    after_purpose form (Asks command) = after_answer link command form part.progress part.behind number
+-- the form in which the client gets a payload of this role
+abbrev pub form_of : Role → List ℕ → List ℕ
+form_of role payload = client_form role prepared_handle payload
+
+abbrev pub after_part : ℕ → Option Purpose → (form : List ℕ) → Progress → (behind : Bool) → (number : ℕ) → List Put
+after_part link (Some (Asks command)) form progress behind number = after_answer link command form progress behind number
+after_part link None form progress behind number = []
+
+-- why a link that is lost is given up
+abbrev pub drop_cause : LinkCause → DropCause
+drop_cause losses.BadWire = causes.BadWire
+drop_cause losses.BadReply = causes.BadReply
+drop_cause losses.Unasked = causes.Unasked
+drop_cause losses.Greeting = causes.Greeting
+drop_cause losses.Plugin = causes.Plugin
+drop_cause (losses.Login code) = causes.Login code
+
+-- What came of a link. Each link is past its login, so nothing is to be sent for that.
+abbrev pub after_coming : ℕ → LinkStep → Option Purpose → (number : ℕ) → List Put
+after_coming link (steps.Part payload role progress next behind) purpose number =
+    after_part link purpose (form_of role payload) progress behind number
+after_coming link (steps.Lost cause) purpose number = Drops link (drop_cause cause) ∷ []
+after_coming link (steps.Send bytes) purpose number = []
+after_coming link steps.LoggedIn purpose number = []
+after_coming link steps.Idle purpose number = []
 
 -- Where memory is wanting the session is closed, and its client told before in a packet of number 1, if the session was
 -- made. One that is over gives up the links that it has left.
@@ -159,9 +184,7 @@ response (ClientBytes bytes) past = []
 response (LinkBytes link bytes) past = []
 response ClientGone past = farewells past
 response (LinkLost link) past = after_loss link past
-response (Replies link part) past = after_part link part (exchange link past) (reply_number past)
-response (Garbles link fault) past = Drops link BadWire ∷ []
-response (Strays link) past = Drops link Unasked ∷ []
+response (Comes link said) past = after_coming link said (asked_on link past) (reply_number past)
 response (Takes judged number) past = after_command judged number
 response (TakesFault fault) past = after_fault fault
 response (Floods held) past = after_flood held
@@ -181,14 +204,24 @@ owed (item ∷ past) = response item past
 
 -- What is due where nothing is owed
 
--- the pending command goes on the link that the session is kept on, where it has that link and hasn't sent it yet
-abbrev pub send_by : Option Command → (sent kept : Option ℕ) → List ℕ → Option Item
-send_by (Some command) None (Some link) links =
-    if contains link links then Some (Puts (Sends link (Asks command))) else None
-send_by _ _ _ links = None
+abbrev pub is_ready : LinkState → Bool
+is_ready (LogsIn handshake unread) = false
+is_ready Rests = true
+is_ready (Awaits e unread) = false
+is_ready (IsLost cause) = false
+
+-- the session has the link, and may send a command on it
+abbrev pub is_free : ℕ → List Item → Bool
+is_free link past = contains link (links past) && is_ready (linked link past)
+
+-- the pending command goes on the link that the session is kept on as soon as that is free, where it wasn't sent yet
+abbrev pub send_by : Option Command → (sent kept : Option ℕ) → (ℕ → Bool) → Option Item
+send_by (Some command) None (Some link) is_free =
+    if is_free link then Some (Puts (Sends link (Asks command))) else None
+send_by _ _ _ is_free = None
 
 abbrev pub due_send : List Item → Option Item
-due_send past = send_by (pending past) (sent_on past) (kept_on past) (links past)
+due_send past = send_by (pending past) (sent_on past) (kept_on past) (λ link. is_free link past)
 
 -- how many bytes a client may have sent that aren't taken up, while a command of its is pending
 abbrev pub flood_limit : Config → ℕ
@@ -203,24 +236,13 @@ flood_by None limit held = None
 abbrev pub due_flood : Config → List Item → Option Item
 due_flood config past = option_map (λ bytes. Floods bytes) (flood_by (pending past) (flood_limit config) (length (held config past)))
 
-abbrev pub is_some_byte : List ℕ → Bool
-is_some_byte [] = false
-is_some_byte (_ ∷ _) = true
-
--- the part that comes next of a reply
-abbrev pub part_of : Exchange → List ℕ → ℕ → List ℕ → Part
-part_of e payload next rest =
-    record { payload = payload; next = next; progress = progress (kind_of e.purpose) e.sofar payload; behind = is_some_byte rest }
-
-abbrev pub reply_by : ℕ → Exchange → Beginning → Option Item
-reply_by link e Nothing = None
-reply_by link e (Whole payload next rest) = Some (Replies link (part_of e payload next rest))
-reply_by link e (Faulty fault) = Some (Garbles link fault)
-
--- what a link's bytes complete
-abbrev pub arrival : ℕ → Option Exchange → List ℕ → Option Item
-arrival link (Some e) bytes = reply_by link e (first_payload SERVER_PAYLOAD e.next bytes)
-arrival link None bytes = if is_some_byte bytes then Some (Strays link) else None
+-- what comes of a link that says this
+abbrev pub coming : ℕ → LinkStep → Option Item
+coming link steps.Idle = None
+coming link (steps.Send bytes) = Some (Comes link (steps.Send bytes))
+coming link steps.LoggedIn = Some (Comes link steps.LoggedIn)
+coming link (steps.Part payload role progress next behind) = Some (Comes link (steps.Part payload role progress next behind))
+coming link (steps.Lost cause) = Some (Comes link (steps.Lost cause))
 
 infixr 20 ◌or◌
 abbrev pub ◌or◌ : {A : Type 0} → Option A → Option A → Option A
@@ -229,7 +251,7 @@ None or other = other
 
 abbrev pub due_arrival : List ℕ → List Item → Option Item
 due_arrival [] past = None
-due_arrival (link ∷ others) past = arrival link (exchange link past) (link_held link past) or due_arrival others past
+due_arrival (link ∷ others) past = coming link (step (linked link past)).answer or due_arrival others past
 
 abbrev pub taking : Beginning → Option Item
 taking Nothing = None

@@ -6,15 +6,11 @@ use Rattle.rws_wire.specs.Payloads.{Beginning, first_payload}
 use Rattle.rws_wire.specs.Payloads.Beginning.{Nothing, Whole, Faulty}
 use Rattle.rws_wire.specs.declared.fault.WireFault.{WireFault}
 use Rattle.rws_reply.specs.declared.kind.Kind.{Kind}
-use Rattle.rws_reply.specs.declared.kind.Progress.{Progress}
-use Rattle.rws_reply.specs.declared.kind.Progress.TheVariants.{More}
-use Rattle.rws_reply.specs.Tracking.{role}
-use Rattle.rws_reply.specs.ClientForm.{in_role}
+use Rattle.rws_link.specs.Stepping.{LinkState, LogsIn, Rests, Awaits, IsLost, Exchange, fed, sent, step}
 use Rattle.rws_config.specs.declared.config.Config.{Config}
-use Rattle.rws_config.specs.declared.limits.TheConstants.{SERVER_PAYLOAD}
 use Rattle.rws_record.specs.declared.command.Command.{Command}
-use Rattle.rws_record.specs.Item.{Item, Part, Purpose}
-use Rattle.rws_record.specs.Item.Item.{Began, ClientBytes, LinkBytes, ClientGone, LinkLost, Replies, Garbles, Takes, TakesFault, Puts, Starves}
+use Rattle.rws_record.specs.Item.{Item, Purpose}
+use Rattle.rws_record.specs.Item.Item.{Began, ClientBytes, LinkBytes, ClientGone, LinkLost, Comes, Takes, TakesFault, Puts, Starves}
 use Rattle.rws_record.specs.Item.Judged.{Serves}
 use Rattle.rws_record.specs.Item.Put.{Tells, Sends, Drops, Closes}
 use Rattle.rws_record.specs.Item.Tell.{Passes}
@@ -82,13 +78,7 @@ kept_on [] = None
 kept_on (Began link server ∷ past) = Some link
 kept_on (_ ∷ past) = kept_on past
 
--- What a link is asked
-
--- the reply that a link owes: why it was asked, the number of the packet that comes next, and the server's payloads so far
-pub record Exchange : Type 0 where
-  pub purpose : Purpose
-  pub next : ℕ
-  pub sofar : List (List ℕ)
+-- What a link is
 
 -- what goes on the link for a purpose
 abbrev pub sent_for : Purpose → List ℕ
@@ -98,55 +88,47 @@ sent_for (Asks command) = command.payload
 abbrev pub kind_of : Purpose → Kind
 kind_of (Asks command) = command.kind
 
--- a reply counts on from the command's last packet
-abbrev pub asked : Purpose → Exchange
-asked purpose = record { purpose = purpose; next = number_behind 0 (sent_for purpose); sofar = [] }
+-- A link: what it waits for, with the bytes that came and aren't read. That of a session's beginning is ready, and counts as
+-- such before it was opened too. When the session loses the link it isn't cleared: it then says what was awaited there.
+abbrev pub linked : ℕ → List Item → LinkState
+linked link [] = Rests
+linked link (Began opened server ∷ past) = if opened == link then Rests else linked link past
+linked link (LinkBytes from bytes ∷ past) = if from == link then fed bytes (linked link past) else linked link past
+linked link (Comes from said ∷ past) = if from == link then (step (linked link past)).after else linked link past
+linked link (Puts (Sends to purpose) ∷ past) =
+    if to == link then sent (sent_for purpose) (Some (kind_of purpose)) else linked link past
+linked link (_ ∷ past) = linked link past
+
+-- what was sent on the link last; it isn't cleared either
+abbrev pub asked_on : ℕ → List Item → Option Purpose
+asked_on link [] = None
+asked_on link (Puts (Sends to purpose) ∷ past) = if to == link then Some purpose else asked_on link past
+asked_on link (_ ∷ past) = asked_on link past
+
+abbrev pub awaited : LinkState → Option Exchange
+awaited (LogsIn handshake unread) = None
+awaited Rests = None
+awaited (Awaits e unread) = Some e
+awaited (IsLost cause) = None
+
+abbrev pub unread : LinkState → List ℕ
+unread (LogsIn handshake bytes) = bytes
+unread Rests = []
+unread (Awaits e bytes) = bytes
+unread (IsLost cause) = []
 
 -- The handle that a client knows a prepared statement by. Prepared statements aren't looked at yet: no command is answered
 -- by a number of one, so no payload has this handle in it.
 abbrev pub prepared_handle : ℕ
 prepared_handle = 0
 
--- the form in which the client gets a payload that comes next of a reply
-abbrev pub form_of : Exchange → List ℕ → List ℕ
-form_of e payload = in_role (role (kind_of e.purpose) e.sofar payload) prepared_handle payload
-
-abbrev pub with_part : Part → Exchange → Exchange
-with_part part e = record e { next = part.next; sofar = e.sofar ++ part.payload ∷ [] }
-
-abbrev pub goes_on_by : Option Progress → Part → Option Exchange → Option Exchange
-goes_on_by (Some More) part (Some e) = Some (with_part part e)
-goes_on_by _ part e = None
-
--- a payload that brings the reply on leaves it awaited; a last one and a wrong one don't
-abbrev pub goes_on : Part → Option Exchange → Option Exchange
-goes_on part e = goes_on_by part.progress part e
-
--- The reply that the link owes. It isn't cleared when the link is lost: it then says what was awaited there.
+-- the reply that the link owes: its kind, the number of the packet that comes next, and the payloads so far
 abbrev pub exchange : ℕ → List Item → Option Exchange
-exchange link [] = None
-exchange link (Puts (Sends to purpose) ∷ past) = if to == link then Some (asked purpose) else exchange link past
-exchange link (Replies from part ∷ past) = if from == link then goes_on part (exchange link past) else exchange link past
-exchange link (_ ∷ past) = exchange link past
-
-abbrev pub next_of : Option Exchange → ℕ
-next_of (Some e) = e.next
-next_of None = 0
+exchange link past = awaited (linked link past)
 
 -- the link's bytes that belong to no payload yet
 abbrev pub link_held : ℕ → List Item → List ℕ
-link_held link [] = []
-link_held link (LinkBytes from bytes ∷ past) = if from == link then link_held link past ++ bytes else link_held link past
-link_held link (Replies from part ∷ past) =
-    if from == link then rest_of (first_payload SERVER_PAYLOAD (next_of (exchange link past)) (link_held link past))
-    else link_held link past
-link_held link (_ ∷ past) = link_held link past
-
--- the fault of the link's packets
-abbrev pub link_fault : ℕ → List Item → Option WireFault
-link_fault link [] = None
-link_fault link (Garbles from fault ∷ past) = if from == link then Some fault else link_fault link past
-link_fault link (_ ∷ past) = link_fault link past
+link_held link past = unread (linked link past)
 
 -- The client's command
 

@@ -8,13 +8,14 @@ use Rattle.rws_record.specs.Rules.{next}
 use Rattle.rws_record.specs.Record.IsRecord.{begins}
 use Rattle.rws_session.specs.State.{state_of}
 use Rattle.rws_session.specs.Kept.{Kept, Stands}
+use Rattle.rws_session.proofs.TableLemmas.{itself}
 
 no_bytes : (limit : ℕ) → first_payload limit 0 [] ≡ Nothing
 unfolding first_payload payload_behind
 no_bytes limit = refl
 
 rests : (config : Config) (link server : ℕ) → next config (Began link server ∷ []) ≡ None
-rests config link server = rw (no_bytes config.command_bytes)
+rests config link server = rw (itself link, no_bytes config.command_bytes)
 
 pub begun_stands : (config : Config) (link server : ℕ) (k : Kept) → k.state ≡ state_of config (Began link server ∷ [])
     → Stands config k (Began link server ∷ [])

@@ -4,14 +4,16 @@ use Rattle.std.specs.Prelude.{All, Contains}
 use Rattle.std.proofs.lemmas.List.Elements.{All-nil, All-cons}
 use Rattle.rws_wire.specs.Packets.{full_packet, spelled_length}
 use Rattle.rws_wire.proofs.LengthLemmas.{unread_is_bounded}
+use Rattle.rws_link.specs.Stepping.{LinkState, LogsIn, Rests as IsResting, Awaits, IsLost, Exchange}
+use Rattle.rws_link.specs.Linking.{held_of, kept}
 use Rattle.rws_config.specs.declared.config.Config.{Config}
 use Rattle.rws_config.specs.declared.limits.TheConstants.{FLOOD_ROOM, SERVER_PAYLOAD}
 use Rattle.rws_config.specs.Allowed.{IsAllowed}
 use Rattle.rws_record.specs.declared.command.Command.{Command}
 use Rattle.rws_record.specs.Item.{Item}
-use Rattle.rws_record.specs.Values.{Exchange, exchange, held, is_over, link_held, links, pending}
+use Rattle.rws_record.specs.Values.{exchange, held, is_over, link_held, linked, links, pending, unread}
 use Rattle.rws_record.proofs.RestLemmas.{Rested, rested}
-use Rattle.rws_session.specs.declared.link.Link.{Link}
+use Rattle.rws_session.specs.declared.links.NumberedLink.{NumberedLink}
 use Rattle.rws_session.specs.State.{State, link_of}
 use Rattle.rws_session.specs.Kept.{Is, Kept, Stands}
 use Rattle.rws_session.specs.Steps.{Hears, Rests}
@@ -40,14 +42,22 @@ module _ (config : Config) (past : List Item) (now : Rested config past) where
     where
       by_exchange : (e : Option Exchange) → exchange link past ≡ e → length (link_held link past) < spelled_length SERVER_PAYLOAD
       by_exchange (Some e) a = unread_is_bounded SERVER_PAYLOAD e.next (link_held link past) (now.reply link e has a)
-      by_exchange None a = let none = now.asked link has a in rw none (some_length SERVER_PAYLOAD)
+      by_exchange None a =
+          let none : link_held link past ≡ [] = ap unread (now.asked link has a) in rw none (some_length SERVER_PAYLOAD)
+
+  -- what code keeps of a link holds what the link does
+  held_is : (link : LinkState) → held_of (kept link) ≡ unread link
+  held_is (LogsIn handshake bytes) = refl
+  held_is IsResting = refl
+  held_is (Awaits e bytes) = refl
+  held_is (IsLost cause) = refl
 
   links_few : (some : List ℕ) → ((link : ℕ) → Contains some link → Contains (links past) link)
-      → All (λ (link : Link). length link.stream.held < spelled_length SERVER_PAYLOAD) (map (link_of past) some)
-  links_few [] has = All-nil (λ (link : Link). length link.stream.held < spelled_length SERVER_PAYLOAD)
+      → All (λ (link : NumberedLink). length (held_of link.link) < spelled_length SERVER_PAYLOAD) (map (link_of past) some)
+  links_few [] has = All-nil (λ (link : NumberedLink). length (held_of link.link) < spelled_length SERVER_PAYLOAD)
   links_few (link ∷ others) has =
-      All-cons (λ (link : Link). length link.stream.held < spelled_length SERVER_PAYLOAD) (link_of past link) (map (link_of past) others)
-      (link_few link (has link (0, omega arith, refl)))
+      All-cons (λ (link : NumberedLink). length (held_of link.link) < spelled_length SERVER_PAYLOAD) (link_of past link) (map (link_of past) others)
+      (rw (held_is (linked link past)) (link_few link (has link (0, omega arith, refl))))
       (links_few others (λ other at. has other (suc at.0, omega arith, at.2)))
 
 pub bounded : (config : Config) (past : List Item) (k : Kept) → IsAllowed config → Stands config k past → IsBounded config k

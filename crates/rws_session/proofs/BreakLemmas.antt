@@ -9,7 +9,7 @@ use Rattle.rws_record.specs.Item.{Item}
 use Rattle.rws_record.specs.Values.{is_over, links, without}
 use Rattle.rws_record.specs.Record.GoesOn.{stays}
 use Rattle.rws_record.specs.Outputs.{actions_of}
-use Rattle.rws_session.specs.declared.link.Link.{Link}
+use Rattle.rws_session.specs.declared.links.NumberedLink.{NumberedLink}
 use Rattle.rws_session.specs.declared.input.SessionInput.{SessionInput}
 use Rattle.rws_session.specs.declared.input.SessionInput.TheVariants as inputs
 use Rattle.rws_session.specs.State.{State, farewell_packet, link_of, number_of}
@@ -73,7 +73,7 @@ hears_part_of_gone config past old new stands n holds =
     (holds ∙ ap (λ (l : Lasting). record l { over = true }) (lasts config past old h.is))
 
 pub hears_part_of_bytes : (config : Config) (past : List Item) (link : ℕ) (bytes : List ℕ) (old new : Kept) → Stands config old past
-    → old.state.over ≡ false → true ≡ list_any (λ (other : Link). other.number == link) old.state.links
+    → old.state.over ≡ false → true ≡ list_any (λ (other : NumberedLink). other.number == link) old.state.links
     → Holds old new → HearsInPart (heard (inputs.Link link bytes) past) past old new
 hears_part_of_bytes config past link bytes old new stands n some holds =
     let h = hearing config past old stands n in
@@ -81,7 +81,7 @@ hears_part_of_bytes config past link bytes old new stands n some holds =
     part_of_open past (inputs.Link link bytes) old new h.goes_on (rw it (holds ∙ lasts config past old h.is))
 
 pub hears_part_of_loss : (config : Config) (past : List Item) (link : ℕ) (old new : Kept) → Stands config old past
-    → old.state.over ≡ false → true ≡ list_any (λ (other : Link). other.number == link) old.state.links
+    → old.state.over ≡ false → true ≡ list_any (λ (other : NumberedLink). other.number == link) old.state.links
     → Holds (record old { state = record old.state { links = without_number link old.state.links } }) new
     → HearsInPart (heard (inputs.LinkGone link) past) past old new
 hears_part_of_loss config past link old new stands n some holds =

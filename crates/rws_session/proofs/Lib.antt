@@ -1,5 +1,4 @@
--- what is read of one link, and the table of links
-pub mod LinkLemmas
+-- the table of links
 pub mod TableLemmas
 -- what is true of every legal record
 pub mod RecordLemmas

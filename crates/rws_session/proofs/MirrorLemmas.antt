@@ -11,7 +11,7 @@ use Rattle.rws_record.specs.Item.Put.{Tells, Sends, Drops, Closes}
 use Rattle.rws_record.specs.Item.Tell.{Passes, Owns, Refuses}
 use Rattle.rws_record.specs.Values.{links, without}
 use Rattle.rws_record.specs.Rules.{owed, after_loss, is_loss}
-use Rattle.rws_session.specs.declared.link.Link.{Link}
+use Rattle.rws_session.specs.declared.links.NumberedLink.{NumberedLink}
 use Rattle.rws_session.specs.declared.owing.Out.{Out}
 use Rattle.rws_session.specs.declared.owing.Out.TheVariants as outs
 use Rattle.rws_session.specs.State.{State, erased, link_of, state_of}
@@ -35,15 +35,15 @@ without_is past number (link ∷ others) = by_test (link == number) refl (withou
     by_test false t behind = rw t (rw behind refl)
 
 -- all links were gone through
-pub farewells_wait : (links : List Link) (count : ℕ) (owed : List Out)
-    → owed ≡ map (λ (link : Link). outs.Drop link.number End) (take count links) → length links ≤ count
-    → map (λ (out : Out). Some out) owed ≡ map (λ (link : Link). Some (outs.Drop link.number End)) links
+pub farewells_wait : (links : List NumberedLink) (count : ℕ) (owed : List Out)
+    → owed ≡ map (λ (link : NumberedLink). outs.Drop link.number End) (take count links) → length links ≤ count
+    → map (λ (out : Out). Some out) owed ≡ map (λ (link : NumberedLink). Some (outs.Drop link.number End)) links
 farewells_wait links count owed e all =
-    ap (map (λ (out : Out). Some out)) (e ∙ ap (map (λ (link : Link). outs.Drop link.number End)) (take_all count links all))
-    ∙ map-map (λ (out : Out). Some out) (λ (link : Link). outs.Drop link.number End) links
+    ap (map (λ (out : Out). Some out)) (e ∙ ap (map (λ (link : NumberedLink). outs.Drop link.number End)) (take_all count links all))
+    ∙ map-map (λ (out : Out). Some out) (λ (link : NumberedLink). outs.Drop link.number End) links
 
 pub farewells_are : (past : List Item) (links : List ℕ)
-    → map (λ (link : Link). Some (outs.Drop link.number End)) (map (link_of past) links) ≡ map erased (map (λ link. Drops link End) links)
+    → map (λ (link : NumberedLink). Some (outs.Drop link.number End)) (map (link_of past) links) ≡ map erased (map (λ link. Drops link End) links)
 farewells_are past [] = refl
 farewells_are past (link ∷ others) = rw (farewells_are past others) refl
 

@@ -1,7 +1,6 @@
 -- Each kind of step, where it was tried on a session that keeps what it is to keep: it makes the item that is due.
-use Rattle.std.proofs.Common.{◌≡◌, ℕ, ◌+◌, length, Bool, true, false, List, [], ◌∷◌, ◌++◌, map, refl, sym, ap, subst, ◌∙◌, inl, inr, Option, Some, None, Ok, Err}
-use Rattle.std.specs.Prelude.{◌==◌, if◌then◌else◌, is_some, unwrap_or}
-use Rattle.std.specs.List.{list_any}
+use Rattle.std.proofs.Common.{◌≡◌, ℕ, ◌+◌, length, Bool, true, false, List, [], ◌∷◌, ◌++◌, map, refl, sym, ap, subst, ◌∙◌, inl, inr, Option, Some, None, Result, Ok, Err, IfOk}
+use Rattle.std.specs.Prelude.{◌⊎◌, if◌then◌else◌, is_some, IfSome}
 use Rattle.std.proofs.lemmas.List.{append-nil}
 use Rattle.rws_wire.specs.Deframing.{Deframing, HandsOut, next_of, unless_stopped}
 use Rattle.rws_wire.specs.Payloads.{Beginning, first_payload}
@@ -11,31 +10,33 @@ use Rattle.rws_wire.specs.declared.fault.WireFault.{WireFault}
 use Rattle.rws_wire.specs.declared.payload.Payload.{Payload}
 use Rattle.rws_reply.specs.declared.kind.Progress.{Progress}
 use Rattle.rws_reply.specs.declared.kind.Progress.TheVariants.{More, Whole as Ends}
+use Rattle.rws_link.specs.declared.step.LinkStep.{LinkStep}
+use Rattle.rws_link.specs.declared.step.LinkStep.TheVariants as steps
+use Rattle.rws_link.specs.Stepping.{LinkState, is_some_byte, step}
 use Rattle.rws_board.specs.declared.action.Action.{Action}
 use Rattle.rws_config.specs.declared.config.Config.{Config}
-use Rattle.rws_config.specs.declared.limits.TheConstants.{FLOOD_ROOM, SERVER_PAYLOAD}
+use Rattle.rws_config.specs.declared.limits.TheConstants.{FLOOD_ROOM}
 use Rattle.rws_record.specs.declared.command.Command.{Command}
-use Rattle.rws_record.specs.Item.{Item, Judged, Part, Purpose, Put}
-use Rattle.rws_record.specs.Item.Item.{Floods, Puts, Replies, Takes, TakesFault}
+use Rattle.rws_record.specs.Item.{Item, Judged, Purpose, Put}
+use Rattle.rws_record.specs.Item.Item.{Comes, Floods, Puts, Takes, TakesFault}
 use Rattle.rws_record.specs.Item.Judged.{Leaves, Pings, IsRefused, Serves}
 use Rattle.rws_record.specs.Item.Put.{Tells, Sends, Drops, Closes}
 use Rattle.rws_record.specs.Item.Tell.{Passes, Owns, Refuses}
 use Rattle.rws_record.specs.Item.Purpose.{Asks}
 use Rattle.rws_record.specs.Judging.{judged}
-use Rattle.rws_record.specs.Values.{Exchange, asked, client_fault, contains, exchange, form_of, held, is_over, kept_on, link_held, links, pending, reply_number, sent_on}
-use Rattle.rws_record.specs.Rules.{after_command, after_fault, after_flood, after_part, arrival, due_arrival, due_flood, flood_by, flood_limit, due_send, due_take, owed, reply_by, send_by, take_by}
+use Rattle.rws_record.specs.Values.{asked_on, client_fault, held, is_over, kept_on, linked, links, pending, reply_number, sent_on}
+use Rattle.rws_record.specs.Rules.{after_answer, after_coming, after_command, after_fault, after_flood, after_part, coming, due_arrival, due_flood, flood_by, flood_limit, due_send, due_take, form_of, is_free, owed, send_by, take_by}
 use Rattle.rws_record.specs.Outputs.{outs_for, outs_of}
+use Rattle.rws_record.proofs.LinkedLemmas.{Says, awaits_asked, never_logs_in, says}
+use Rattle.rws_record.proofs.LinkedLemmas.Says.{part, garbled, wrong, again}
 use Rattle.rws_record.proofs.StepLemmas.{either}
-use Rattle.rws_session.specs.declared.link.Arrival.{Arrival}
-use Rattle.rws_session.specs.declared.link.Arrival.TheVariants as arrivals
-use Rattle.rws_session.specs.declared.link.Link.{Link}
+use Rattle.rws_session.specs.declared.links.NumberedLink.{NumberedLink}
 use Rattle.rws_session.specs.declared.owing.Out.{Out}
-use Rattle.rws_session.specs.State.{State, awaited_of, erased, link_of, state_of}
-use Rattle.rws_session.specs.Table.{IsInForm, ReadsFirst, at, item_of, owing}
+use Rattle.rws_session.specs.State.{State, erased, link_of, state_of}
+use Rattle.rws_session.specs.Table.{AreDistinct, ReadsFirst, SendsOn}
 use Rattle.rws_session.specs.Kept.{Kept, Is}
-use Rattle.rws_session.specs.Steps.{SendsPending, Went, action_of, after_out, due_put, gives, owes, owes_for, owes_reply, pending_by, sendable_by, sends, takes}
+use Rattle.rws_session.specs.Steps.{SendsPending, Tries, Went, action_of, after_out, due_put, gives, going_on, owes, owes_for, owes_reply, pending_by, takes}
 use Rattle.rws_session.proofs.RecordLemmas.{client_sound, links_distinct}
-use Rattle.rws_session.proofs.TableLemmas.{apart, changed_at, has_is, itself}
 use Rattle.rws_session.proofs.MirrorLemmas.{put_is, owing_else}
 
 -- What is owed
@@ -87,89 +88,89 @@ paid config past old mid new out is first left given =
 
 -- The pending command
 
--- where it may be sent, as code and as the rule look for it
-sendable_is : (past : List Item) → sendable_by (pending past) (sent_on past) (kept_on past) (map (link_of past) (links past)) ≡ None
-    → due_send past ≡ None
-sendable_is past e = by_values (pending past) (sent_on past) (kept_on past) (λ link. has_is past link (links past)) e
+-- where it may go, as code and as the rule look for it
+gone_nowhere : (past : List Item) → going_on (pending past) (sent_on past) (kept_on past) ≡ None → due_send past ≡ None
+gone_nowhere past e = by_values (pending past) (sent_on past) (kept_on past) e
   where
-    by_values : (command : Option Command) (sent kept : Option ℕ)
-        → ((link : ℕ) → list_any (λ (other : Link). other.number == link) (map (link_of past) (links past)) ≡ contains link (links past))
-        → sendable_by command sent kept (map (link_of past) (links past)) ≡ None → send_by command sent kept (links past) ≡ None
-    by_values None sent kept has e = refl
-    by_values (Some command) (Some link) kept has e = refl
-    by_values (Some command) None None has e = refl
-    by_values (Some command) None (Some link) has e = by_test (contains link (links past)) (rw (has link) at e)
-      where
-        by_test : (test : Bool) → (if test then Some link else None) ≡ None
-            → (if test then Some (Puts (Sends link (Asks command))) else None) ≡ None
-        by_test true e = absurd cc
-        by_test false e = refl
+    by_values : (command : Option Command) (sent kept : Option ℕ) → going_on command sent kept ≡ None
+        → send_by command sent kept (λ link. is_free link past) ≡ None
+    by_values None sent kept e = refl
+    by_values (Some command) (Some link) kept e = refl
+    by_values (Some command) None None e = refl
+    by_values (Some command) None (Some link) e = absurd cc
 
--- the command that is sent on a link
-record Sendable (past : List Item) (link : ℕ) : Type 0 where
-  command : Command
+-- a command that waits to be sent on a link
+record Waiting (past : List Item) (link : ℕ) (command : Command) : Type 0 where
   is_pending : pending past ≡ Some command
-  is_due : due_send past ≡ Some (Puts (Sends link (Asks command)))
+  is_unsent : sent_on past ≡ None
+  is_kept : kept_on past ≡ Some link
 
-sendable : (past : List Item) (link : ℕ)
-    → sendable_by (pending past) (sent_on past) (kept_on past) (map (link_of past) (links past)) ≡ Some link → Sendable past link
-sendable past link e = by_values (pending past) (sent_on past) (kept_on past) refl refl refl (has_is past) e
+waiting : (past : List Item) (link : ℕ) (command : Command) → pending past ≡ Some command
+    → going_on (pending past) (sent_on past) (kept_on past) ≡ Some link → Waiting past link command
+waiting past link command p e = by_values (sent_on past) (kept_on past) refl refl (rw p at e)
   where
-    by_values : (command : Option Command) (sent kept : Option ℕ) → pending past ≡ command → sent_on past ≡ sent
-        → kept_on past ≡ kept
-        → ((link : ℕ) (list : List ℕ) → list_any (λ (other : Link). other.number == link) (map (link_of past) list) ≡ contains link list)
-        → sendable_by command sent kept (map (link_of past) (links past)) ≡ Some link → Sendable past link
-    by_values command sent None p s k has e = absurd cc
-    by_values None sent (Some on) p s k has e = absurd cc
-    by_values (Some command) (Some other) (Some on) p s k has e = absurd cc
-    by_values (Some command) None (Some on) p s k has e =
-        by_test (contains on (links past)) refl (rw (has on (links past)) at e)
-      where
-        by_test : (test : Bool) → contains on (links past) ≡ test → (if test then Some on else None) ≡ Some link → Sendable past link
-        by_test true t e =
-            let same : on ≡ link = cc in
-            record {
-              command = command;
-              is_pending = p;
-              is_due = rw (p, s, k, t) (ap (λ (l : ℕ). Some (Puts (Sends l (Asks command)))) same);
-            }
-        by_test false t e = absurd cc
+    by_values : (sent kept : Option ℕ) → sent_on past ≡ sent → kept_on past ≡ kept
+        → going_on (Some command) sent kept ≡ Some link → Waiting past link command
+    by_values (Some other) kept s k e = absurd cc
+    by_values None None s k e = absurd cc
+    by_values None (Some on) s k e = record { is_pending = p; is_unsent = s; is_kept = k ∙ e }
+
+-- what is due then, by whether the link is free
+due_by : (past : List Item) (link : ℕ) (command : Command) (free : Bool) → Waiting past link command → is_free link past ≡ free
+    → due_send past ≡ (if free then Some (Puts (Sends link (Asks command))) else None)
+due_by past link command free w f = rw (w.is_pending, w.is_unsent, w.is_kept, f) refl
 
 pub sent_nothing : (config : Config) (past : List Item) (k : Kept) → Is config k past
-    → sendable_by k.state.pending k.state.sent_on k.state.kept_on k.state.links ≡ None → due_send past ≡ None
-sent_nothing config past k is none =
-    sendable_is past (rw is.mirrors at none)
+    → going_on k.state.pending k.state.sent_on k.state.kept_on ≡ None → due_send past ≡ None
+sent_nothing config past k is none = gone_nowhere past (rw is.mirrors at none)
 
--- the link that a command is sent on, and every other
+-- it was tried on a link
+sent : (config : Config) (past : List Item) (link : ℕ) (went : Bool) (old new : Kept) → Is config old past → owed past ≡ []
+    → going_on old.state.pending old.state.sent_on old.state.kept_on ≡ Some link
+    → SendsPending link old.state.pending went old new
+    → ((numbers : List ℕ) → old.state.links ≡ map (link_of past) numbers → AreDistinct numbers
+    → IfSome old.state.pending (λ command. SendsOn link command past numbers went new.state.links))
+    → Tries config (due_send past) past went old new
+sent config past link went old new is o some sends links_are =
+    by_pending (pending past) refl went
+    (subst (λ (s : State). SendsPending link s.pending went old new) is.mirrors sends)
+    (subst (λ (s : State). IfSome s.pending (λ command. SendsOn link command past (links past) went new.state.links)) is.mirrors
+    (links_are (links past) (ap (λ (s : State). s.links) is.mirrors) (links_distinct is.legal)))
+  where
+    on_this : going_on (pending past) (sent_on past) (kept_on past) ≡ Some link
+    on_this = rw is.mirrors at some
 
-sent_here : (past : List Item) (link : ℕ) (command : Command)
-    → link_of (Puts (Sends link (Asks command)) ∷ past) link ≡ owing (awaited_of (asked (Asks command))) (link_of past link)
-sent_here past link command = rw (itself link) refl
+    by_pending : (command : Option Command) → pending past ≡ command → (went : Bool) → SendsPending link command went old new
+        → IfSome command (λ command. SendsOn link command past (links past) went new.state.links)
+        → Tries config (due_send past) past went old new
+    by_pending None p went sends now = let none : None ≡ Some link = rw p at on_this in absurd cc
+    by_pending (Some command) p true sends now =
+        let w = waiting past link command p on_this in
+        record {
+          item = Puts (Sends link (Asks command));
+          is_due = due_by past link command true w now.0;
+          made = record {
+            number = ap (λ (k : Kept). k.number) sends;
+            outs = ap (λ (k : Kept). k.outs) sends;
+            state = ap (λ (k : Kept). k.state) sends
+                ∙ ap (λ (s : State). record s { links = new.state.links; sent_on = Some link }) is.mirrors ∙ rw (now.1, o) refl;
+          };
+        }
+    by_pending (Some command) p false sends now =
+        let w = waiting past link command p on_this in (
+          due_by past link command false w now.0,
+          sends ∙ ap (λ (l : List NumberedLink). record old { state = record old.state { links = l } })
+              (now.1 ∙ sym (ap (λ (s : State). s.links) is.mirrors)),
+        )
 
-sent_elsewhere : (past : List Item) (link : ℕ) (command : Command) (other : ℕ) → (other == link) ≡ false
-    → link_of (Puts (Sends link (Asks command)) ∷ past) other ≡ link_of past other
-sent_elsewhere past link command other differ = rw (apart other link differ) refl
-
-pub sent : (config : Config) (past : List Item) (link : ℕ) (old new : Kept) → Is config old past → owed past ≡ []
-    → sendable_by old.state.pending old.state.sent_on old.state.kept_on old.state.links ≡ Some link
-    → SendsPending link old.state.pending old new → Went config (due_send past) past old new
-sent config past link old new is o some went =
-    let s = sendable past link (rw is.mirrors at some) in
-    let pends : old.state.pending ≡ Some s.command = ap (λ (state : State). state.pending) is.mirrors ∙ s.is_pending in
-    let made : new ≡ sends link s.command old = subst (λ (p : Option Command). SendsPending link p old new) pends went in
-    record {
-      item = Puts (Sends link (Asks s.command));
-      is_due = s.is_due;
-      made = record {
-        number = ap (λ (k : Kept). k.number) made;
-        outs = ap (λ (k : Kept). k.outs) made;
-        state = ap (λ (k : Kept). k.state) made
-            ∙ ap (λ (state : State). record state { links = at link (owing (awaited_of (asked (Asks s.command)))) state.links; sent_on = Some link }) is.mirrors
-            ∙ rw (changed_at past link (owing (awaited_of (asked (Asks s.command)))) (link_of (Puts (Sends link (Asks s.command)) ∷ past))
-            (links past) (links_distinct is.legal) (sent_elsewhere past link s.command) (sent_here past link s.command))
-            (rw o refl);
-      };
-    }
+pub sent_or_not : (config : Config) (past : List Item) (link : ℕ) (old new : Kept) {E : Type 0} (result : Result Bool E) → Is config old past
+    → owed past ≡ [] → going_on old.state.pending old.state.sent_on old.state.kept_on ≡ Some link
+    → IfOk result (λ went. SendsPending link old.state.pending went old new)
+    → ((numbers : List ℕ) → old.state.links ≡ map (link_of past) numbers → AreDistinct numbers
+    → IfSome old.state.pending (λ command. IfOk result (λ went. SendsOn link command past numbers went new.state.links)))
+    → IfOk result (λ went. Tries config (due_send past) past went old new)
+sent_or_not config past link old new (Ok went) is o some sends links_are = sent config past link went old new is o some sends links_are
+sent_or_not config past link old new (Err error) is o some sends links_are = tt
 
 -- A flood behind it
 
@@ -196,101 +197,83 @@ flooded config past old new bytes is o some now =
 
 -- What came on the links
 
--- what follows on an arrival, as code and as the definition have it
-follows_reply : (past : List Item) (link : ℕ) (part : Part) (e : Exchange) (number : ℕ) (progress : Option Progress)
-    → part.progress ≡ progress
-    → owes_reply link (form_of e part.payload) part.progress part.behind number ≡ map erased (after_part link part (Some e) number)
-follows_reply past link part e number progress is = by_purpose e.purpose progress is
-  where
-    by_purpose : (purpose : Purpose) (progress : Option Progress) → part.progress ≡ progress
-        → owes_reply link (form_of (record e { purpose = purpose }) part.payload) part.progress part.behind number
-        ≡ map erased (after_part link part (Some (record e { purpose = purpose })) number)
-    by_purpose (Asks command) None is = rw is refl
-    by_purpose (Asks command) (Some More) is = rw is refl
-    by_purpose (Asks command) (Some (Ends outcome)) is = rw is refl
+-- what follows on a payload, as code and as the definition have it
+follows_part : (link : ℕ) (command : Command) (form : List ℕ) (far : Progress) (behind : Bool) (number : ℕ)
+    → owes_reply link form far behind number ≡ map erased (after_answer link command form far behind number)
+follows_part link command form More behind number = refl
+follows_part link command form (Ends outcome) behind number = refl
 
--- what a link owes where its bytes complete a part of a reply
-owes_one : (past : List Item) (link : ℕ) (part : Part)
-    → arrival link (exchange link past) (link_held link past) ≡ Some (Replies link part) → (e : Exchange) × (exchange link past ≡ Some e)
-owes_one past link part e = by_exchange (exchange link past) refl e
+-- what follows on what a link says
+follows : (past : List Item) (link : ℕ) (state : LinkState) (said : LinkStep) (number : ℕ) → linked link past ≡ state → Says state said
+    → owes_for link said number ≡ map erased (after_coming link said (asked_on link past) number)
+follows past link state said number is (part {e = e} {unread = unread} {payload = payload} {rest = rest} {its = its} {far = far} f r p) =
+    let asked = awaits_asked link past e unread is in
+    by_purpose asked.purpose asked.is
   where
-    by_exchange : (owed : Option Exchange) → exchange link past ≡ owed → arrival link owed (link_held link past) ≡ Some (Replies link part)
-        → (e : Exchange) × (exchange link past ≡ Some e)
-    by_exchange (Some e) is found = (e, is)
-    by_exchange None is found = by_bytes (link_held link past) found
-      where
-        by_bytes : (bytes : List ℕ) → arrival link None bytes ≡ Some (Replies link part) → (e : Exchange) × (exchange link past ≡ Some e)
-        by_bytes [] found = absurd cc
-        by_bytes (byte ∷ bytes) found = absurd cc
+    by_purpose : (purpose : Purpose) → asked_on link past ≡ Some purpose
+        → owes_reply link (form_of its payload) far (is_some_byte rest) number
+        ≡ map erased (after_part link (asked_on link past) (form_of its payload) far (is_some_byte rest) number)
+    by_purpose (Asks command) a = rw a (follows_part link command (form_of its payload) far (is_some_byte rest) number)
+follows past link state said number is (garbled f) = refl
+follows past link state said number is (wrong f p) = refl
+follows past link state said number is again = refl
 
--- what is due first of some links comes on one of them
-due_on_one : (past : List Item) (link : ℕ) (part : Part) (some : List ℕ) → due_arrival some past ≡ Some (Replies link part)
-    → arrival link (exchange link past) (link_held link past) ≡ Some (Replies link part)
-due_on_one past link part [] due = absurd cc
-due_on_one past link part (first ∷ others) due =
-    elim (either (arrival first (exchange first past) (link_held first past)) (due_arrival others past) (Replies link part) due) [
-      | inl here ↦ by_arrival (exchange first past) (link_held first past) refl refl here
-      | inr there ↦ due_on_one past link part others there
+-- what is due first of some links is said by one of them
+due_on_one : (past : List Item) (link : ℕ) (said : LinkStep) (some : List ℕ) → due_arrival some past ≡ Some (Comes link said)
+    → Says (linked link past) said
+due_on_one past link said [] due = absurd cc
+due_on_one past link said (first ∷ others) due =
+    elim (either (coming first (step (linked first past)).answer) (due_arrival others past) (Comes link said) due) [
+      | inl here ↦ by_said (step (linked first past)).answer (says (linked first past) (step (linked first past)).answer (never_logs_in first past) refl) here
+      | inr there ↦ due_on_one past link said others there
     ]
   where
-    by_reply : (e : Exchange) (found : Beginning) → reply_by first e found ≡ Some (Replies link part) → first ≡ link
-    by_reply e Nothing is = absurd cc
-    by_reply e (Whole payload next rest) is = cc
-    by_reply e (Faulty fault) is = absurd cc
+    its : (it : LinkStep) → Says (linked first past) it → Some (Comes first it) ≡ Some (Comes link said) → Says (linked link past) said
+    its it says e =
+        let same : first ≡ link = cc in
+        let also : it ≡ said = cc in
+        subst (λ (l : ℕ). Says (linked l past) said) same (subst (Says (linked first past)) also says)
 
-    by_arrival : (owed : Option Exchange) (bytes : List ℕ) → exchange first past ≡ owed → link_held first past ≡ bytes
-        → arrival first owed bytes ≡ Some (Replies link part)
-        → arrival link (exchange link past) (link_held link past) ≡ Some (Replies link part)
-    by_arrival (Some e) bytes o b is =
-        let same = by_reply e (first_payload SERVER_PAYLOAD e.next bytes) is in rw (← same) (rw (o, b) (rw (← same) at is))
-    by_arrival None [] o b is = absurd cc
-    by_arrival None (byte ∷ bytes) o b is = absurd cc
-
--- what is owed where an item of a link was made
-arrival_is : (config : Config) (past : List Item) (link : ℕ) (found : Arrival) (links_now : List Link) → owed past ≡ []
-    → due_arrival (links past) past ≡ Some (item_of link found) → links_now ≡ map (link_of (item_of link found ∷ past)) (links past)
-    → IsInForm past link found → record (state_of config past) { links = links_now; owed = owes_for link found (reply_number past) ++ map erased (owed past) }
-    ≡ state_of config (item_of link found ∷ past)
-arrival_is config past link arrivals.Stray links_now o due are form = rw (o, are) refl
-arrival_is config past link (arrivals.Garbled fault) links_now o due are form = rw (o, are) refl
-arrival_is config past link (arrivals.Reply payload form next progress behind) links_now o due are is_form =
-    let part : Part = record { payload = payload; next = next; progress = progress; behind = behind } in
-    let owes = owes_one past link part (due_on_one past link part (links past) due) in
-    let follows = follows_reply past link part owes.0 (reply_number past) progress refl in
-    let is : unwrap_or form payload ≡ form_of owes.0 payload = is_form owes.0 owes.1 in
-    rw (o, are, owes.1, is, append-nil (owes_reply link (form_of owes.0 payload) progress behind (reply_number past)), follows) refl
+    by_said : (it : LinkStep) → (it ≡ steps.Idle) ⊎ Says (linked first past) it → coming first it ≡ Some (Comes link said)
+        → Says (linked link past) said
+    by_said steps.Idle it e = absurd cc
+    by_said (steps.Send bytes) (inl idle) e = absurd cc
+    by_said (steps.Send bytes) (inr it) e = its (steps.Send bytes) it e
+    by_said steps.LoggedIn (inl idle) e = absurd cc
+    by_said steps.LoggedIn (inr it) e = its steps.LoggedIn it e
+    by_said (steps.Part payload role progress next behind) (inl idle) e = absurd cc
+    by_said (steps.Part payload role progress next behind) (inr it) e = its (steps.Part payload role progress next behind) it e
+    by_said (steps.Lost cause) (inl idle) e = absurd cc
+    by_said (steps.Lost cause) (inr it) e = its (steps.Lost cause) it e
 
 pub read_nothing : (config : Config) (past : List Item) (old new : Kept) → Is config old past
     → new ≡ record old { state = record old.state { links = new.state.links } }
     → ReadsFirst past (links past) None new.state.links → (due_arrival (links past) past ≡ None) × (new ≡ old)
 read_nothing config past old new is rest read = (
   read.0,
-  rest ∙ ap (λ (l : List Link). record old { state = record old.state { links = l } })
+  rest ∙ ap (λ (l : List NumberedLink). record old { state = record old.state { links = l } })
       (read.1 ∙ sym (ap (λ (s : State). s.links) is.mirrors)),
 )
 
-pub read_one : (config : Config) (past : List Item) (old mid new : Kept) (link : ℕ) (found : Arrival) → Is config old past → owed past ≡ []
+pub read_one : (config : Config) (past : List Item) (old mid new : Kept) (link : ℕ) (said : LinkStep) → Is config old past → owed past ≡ []
     → mid ≡ record old { state = record old.state { links = mid.state.links } }
-    → ReadsFirst past (links past) (Some (link, found)) mid.state.links
-    → new ≡ record mid { state = record mid.state { owed = owes_for link found mid.state.reply_number ++ mid.state.owed } }
+    → ReadsFirst past (links past) (Some (link, said)) mid.state.links
+    → new ≡ record mid { state = record mid.state { owed = owes_for link said mid.state.reply_number ++ mid.state.owed } }
     → Went config (due_arrival (links past) past) past old new
-read_one config past old mid new link found is o rest first now = record {
-  item = item_of link found;
-  is_due = first.0;
-  made = record {
-    number = ap (λ (k : Kept). k.number) now ∙ ap (λ (k : Kept). k.number) rest;
-    outs = ap (λ (k : Kept). k.outs) now ∙ ap (λ (k : Kept). k.outs) rest ∙ sym (gives_none found);
-    state = ap (λ (k : Kept). k.state) now
-        ∙ ap (λ (k : Kept). record k.state { owed = owes_for link found k.state.reply_number ++ k.state.owed }) rest
-        ∙ ap (λ (s : State). record s { links = mid.state.links; owed = owes_for link found s.reply_number ++ s.owed }) is.mirrors
-        ∙ arrival_is config past link found mid.state.links o first.0 first.2 first.3;
-  };
-}
-  where
-    gives_none : (found : Arrival) → old.outs ++ outs_of old.number (item_of link found) past ≡ old.outs
-    gives_none (arrivals.Reply payload form next progress behind) = append-nil old.outs
-    gives_none (arrivals.Garbled fault) = append-nil old.outs
-    gives_none arrivals.Stray = append-nil old.outs
+read_one config past old mid new link said is o rest first now =
+    let owes = follows past link (linked link past) said (reply_number past) refl (due_on_one past link said (links past) first.0) in
+    record {
+      item = Comes link said;
+      is_due = first.0;
+      made = record {
+        number = ap (λ (k : Kept). k.number) now ∙ ap (λ (k : Kept). k.number) rest;
+        outs = ap (λ (k : Kept). k.outs) now ∙ ap (λ (k : Kept). k.outs) rest ∙ sym (append-nil old.outs);
+        state = ap (λ (k : Kept). k.state) now
+            ∙ ap (λ (k : Kept). record k.state { owed = owes_for link said k.state.reply_number ++ k.state.owed }) rest
+            ∙ ap (λ (s : State). record s { links = mid.state.links; owed = owes_for link said s.reply_number ++ s.owed }) is.mirrors
+            ∙ rw (o, first.2, append-nil (owes_for link said (reply_number past)), owes) refl;
+      };
+    }
 
 -- The client's next command
 

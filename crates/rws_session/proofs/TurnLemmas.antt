@@ -15,16 +15,16 @@ use Rattle.rws_record.specs.Record.GoesOn.{stays, then as goes_then}
 use Rattle.rws_record.specs.Outputs.{actions_of, outs_of}
 use Rattle.rws_record.proofs.RecordLemmas.{contained}
 use Rattle.rws_record.proofs.StepLemmas.{rests_owing_nothing}
-use Rattle.rws_session.specs.declared.link.Link.{Link}
+use Rattle.rws_session.specs.declared.links.NumberedLink.{NumberedLink}
 use Rattle.rws_session.specs.declared.input.SessionInput.{SessionInput}
 use Rattle.rws_session.specs.declared.input.SessionInput.TheVariants as inputs
 use Rattle.rws_session.specs.State.{State, erased, link_of}
-use Rattle.rws_session.specs.Table.{at, fed}
+use Rattle.rws_session.specs.Table.{AreDistinct}
 use Rattle.rws_session.specs.Kept.{Is, Kept, Stands}
 use Rattle.rws_session.specs.Turning.{heard, heard_open}
 use Rattle.rws_session.specs.Steps.{Goes, Hears, Rests, Tries, ends, loses}
 use Rattle.rws_session.proofs.RecordLemmas.{links_distinct}
-use Rattle.rws_session.proofs.TableLemmas.{apart, changed_at, has_is, itself}
+use Rattle.rws_session.proofs.TableLemmas.{has_is}
 use Rattle.rws_session.proofs.MirrorLemmas.{farewells_are, without_is}
 
 -- Steps
@@ -118,59 +118,48 @@ hears_gone config past old new stands n now =
 -- a link that the session has
 
 pub has : (config : Config) (past : List Item) (link : ℕ) (k : Kept) (test : Bool) → Is config k past
-    → test ≡ list_any (λ (other : Link). other.number == link) k.state.links → contains link (links past) ≡ test
+    → test ≡ list_any (λ (other : NumberedLink). other.number == link) k.state.links → contains link (links past) ≡ test
 has config past link k test is e =
-    sym (e ∙ ap (λ (s : State). list_any (λ (other : Link). other.number == link) s.links) is.mirrors ∙ has_is past link (links past))
+    sym (e ∙ ap (λ (s : State). list_any (λ (other : NumberedLink). other.number == link) s.links) is.mirrors ∙ has_is past link (links past))
 
 pub hears_no_bytes : (config : Config) (past : List Item) (link : ℕ) (bytes : List ℕ) (k : Kept) → Stands config k past
-    → k.state.over ≡ false → false ≡ list_any (λ (other : Link). other.number == link) k.state.links
+    → k.state.over ≡ false → false ≡ list_any (λ (other : NumberedLink). other.number == link) k.state.links
     → Hears config (heard (inputs.Link link bytes) past) past false k k
 hears_no_bytes config past link bytes k stands n none =
     let h = hearing config past k stands n in
     hears_open config past (inputs.Link link bytes) false k k h.goes_on (rw (has config past link k false h.is none) refl)
 
 pub hears_no_loss : (config : Config) (past : List Item) (link : ℕ) (k : Kept) → Stands config k past
-    → k.state.over ≡ false → false ≡ list_any (λ (other : Link). other.number == link) k.state.links
+    → k.state.over ≡ false → false ≡ list_any (λ (other : NumberedLink). other.number == link) k.state.links
     → Hears config (heard (inputs.LinkGone link) past) past false k k
 hears_no_loss config past link k stands n none =
     let h = hearing config past k stands n in
     hears_open config past (inputs.LinkGone link) false k k h.goes_on (rw (has config past link k false h.is none) refl)
 
--- the link that bytes come on, and every other
-
-fed_here : (past : List Item) (link : ℕ) (bytes : List ℕ) → link_of (LinkBytes link bytes ∷ past) link ≡ fed bytes (link_of past link)
-fed_here past link bytes = rw (itself link) refl
-
-fed_elsewhere : (past : List Item) (link : ℕ) (bytes : List ℕ) (other : ℕ) → (other == link) ≡ false
-    → link_of (LinkBytes link bytes ∷ past) other ≡ link_of past other
-fed_elsewhere past link bytes other differ = rw (apart other link differ) refl
-
 pub hears_bytes : (config : Config) (past : List Item) (link : ℕ) (bytes : List ℕ) (old new : Kept) → Stands config old past
-    → old.state.over ≡ false → true ≡ list_any (λ (other : Link). other.number == link) old.state.links
-    → new ≡ record old { state = record old.state { links = at link (fed bytes) old.state.links } }
+    → old.state.over ≡ false → true ≡ list_any (λ (other : NumberedLink). other.number == link) old.state.links
+    → ((record_of : List Item) (links : List ℕ) → old.state.links ≡ map (link_of record_of) links → AreDistinct links
+    → new.state.links ≡ map (link_of (LinkBytes link bytes ∷ record_of)) links)
+    → new ≡ record old { state = record old.state { links = new.state.links } }
     → Hears config (heard (inputs.Link link bytes) past) past true old new
-hears_bytes config past link bytes old new stands n some now =
+hears_bytes config past link bytes old new stands n some fed rest =
     let h = hearing config past old stands n in
     let o = rests_owing_nothing config past h.rests in
     let it = has config past link old true h.is some in
+    let now = fed past (links past) (ap (λ (s : State). s.links) h.is.mirrors) (links_distinct h.is.legal) in
     hears_open config past (inputs.Link link bytes) true old new h.goes_on
     (rw it (
-      ap (λ (k : Kept). k.number) now,
-      ap (λ (k : Kept). k.outs) now,
+      ap (λ (k : Kept). k.number) rest,
+      ap (λ (k : Kept). k.outs) rest,
       record {
-        mirrors = ap (λ (k : Kept). k.state) now
-            ∙ ap (λ (s : State). record s { links = at link (fed bytes) s.links }) h.is.mirrors
-            ∙ rw (
-              o,
-              changed_at past link (fed bytes) (link_of (LinkBytes link bytes ∷ past)) (links past) (links_distinct h.is.legal)
-                  (fed_elsewhere past link bytes) (fed_here past link bytes),
-            ) refl;
+        mirrors = ap (λ (k : Kept). k.state) rest
+            ∙ ap (λ (s : State). record s { links = new.state.links }) h.is.mirrors ∙ rw (o, now) refl;
         legal = hears h.is.legal h.rests h.goes_on (contained link (links past) it);
       },
     ))
 
 pub hears_loss : (config : Config) (past : List Item) (link : ℕ) (old new : Kept) → Stands config old past
-    → old.state.over ≡ false → true ≡ list_any (λ (other : Link). other.number == link) old.state.links
+    → old.state.over ≡ false → true ≡ list_any (λ (other : NumberedLink). other.number == link) old.state.links
     → new ≡ record old { state = loses link old.state }
     → Hears config (heard (inputs.LinkGone link) past) past true old new
 hears_loss config past link old new stands n some now =

@@ -1,22 +1,19 @@
 -- What a session keeps of its record: a value for each thing that its later steps depend on.
 use Rattle.std.specs.Prelude.{ℕ, Bool, List, map, Option, Some, None}
-use Rattle.std.specs.Option.{option_map}
 use Rattle.rws_wire.specs.Deframing.{Deframing}
 use Rattle.rws_wire.specs.Packets.{spelling}
 use Rattle.rws_msgs.specs.ErrLayout.{err_bytes}
-use Rattle.rws_reply.specs.Tracking.{tracked}
+use Rattle.rws_link.specs.Linking.{kept}
 use Rattle.rws_config.specs.declared.config.Config.{Config}
-use Rattle.rws_config.specs.declared.limits.TheConstants.{SERVER_PAYLOAD}
 use Rattle.rws_record.specs.declared.command.Command.{Command}
 use Rattle.rws_record.specs.declared.proxy_error.ProxyError.TheVariants.{OutOfMemory}
 use Rattle.rws_record.specs.Item.{Item, Put}
 use Rattle.rws_record.specs.Item.Put.{Tells, Sends, Drops, Closes}
 use Rattle.rws_record.specs.Item.Tell.{Passes, Owns, Refuses}
-use Rattle.rws_record.specs.Values.{held, client_fault, links, server_of, kept_on, Exchange, exchange, kind_of, link_held, link_fault, pending, sent_on, reply_number, told_from, is_over}
+use Rattle.rws_record.specs.Values.{held, client_fault, links, server_of, kept_on, linked, pending, sent_on, reply_number, told_from, is_over}
 use Rattle.rws_record.specs.Rules.{owed}
 use Rattle.rws_record.specs.Errors.{error_of}
-use Rattle.rws_session.specs.declared.link.Awaited.{Awaited}
-use Rattle.rws_session.specs.declared.link.Link.{Link}
+use Rattle.rws_session.specs.declared.links.NumberedLink.{NumberedLink}
 use Rattle.rws_session.specs.declared.owing.Out.{Out}
 use Rattle.rws_session.specs.declared.owing.Out.TheVariants as outs
 
@@ -24,7 +21,7 @@ pub record State : Type 0 where
   -- the client's bytes that aren't taken up
   pub client : Deframing
   -- the links, in order of number
-  pub links : List Link
+  pub links : List NumberedLink
   -- the link that the session is kept on
   pub kept_on : Option ℕ
   -- the command that isn't answered, the link that it was sent on, and that from which a part of its reply was told
@@ -49,20 +46,11 @@ erased (Sends link purpose) = None
 erased (Drops link cause) = Some (outs.Drop link cause)
 erased (Closes reason) = Some (outs.Close reason)
 
--- the reply that a link owes, for one who reads it
-abbrev pub awaited_of : Exchange → Awaited
-awaited_of e = record { next = e.next; tracker = tracked (kind_of e.purpose) e.sofar }
-
 -- a link by its number
-abbrev pub link_of : List Item → ℕ → Link
-link_of past link = record {
-  number = link;
-  server = server_of link past;
-  stream = record { limit = SERVER_PAYLOAD; held = link_held link past; stopped = link_fault link past };
-  awaited = option_map awaited_of (exchange link past);
-}
+abbrev pub link_of : List Item → ℕ → NumberedLink
+link_of past number = record { number = number; server = server_of number past; link = kept (linked number past) }
 
-abbrev pub number_of : Link → ℕ
+abbrev pub number_of : NumberedLink → ℕ
 number_of link = link.number
 
 -- it is made with the session, and waits for want of memory

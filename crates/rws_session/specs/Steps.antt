@@ -1,14 +1,15 @@
 -- How the steps of a session change what it keeps.
-use Rattle.std.specs.List.{list_any}
-use Rattle.std.specs.Prelude.{◌≡◌, ◌==◌, ◌&&◌, ℕ, Bool, true, false, List, [], ◌∷◌, ◌++◌, map, Option, Some, None, is_some, is_none, unwrap_or, if◌then◌else◌}
+use Rattle.std.specs.Prelude.{◌≡◌, ◌&&◌, ℕ, Bool, true, false, List, [], ◌∷◌, ◌++◌, map, Option, Some, None, is_some, is_none, if◌then◌else◌}
 use Rattle.rws_wire.specs.Packets.{spelling, number_behind}
 use Rattle.rws_wire.specs.declared.close_reason.CloseReason.{CloseReason}
 use Rattle.rws_wire.specs.declared.drop_cause.DropCause.{DropCause}
-use Rattle.rws_wire.specs.declared.drop_cause.DropCause.TheVariants.{BadReply, BadWire, End, Unasked}
+use Rattle.rws_wire.specs.declared.drop_cause.DropCause.TheVariants.{End}
 use Rattle.rws_msgs.specs.ErrLayout.{err_bytes}
 use Rattle.rws_reply.specs.declared.kind.Outcome.{Outcome}
 use Rattle.rws_reply.specs.declared.kind.Progress.{Progress}
 use Rattle.rws_reply.specs.declared.kind.Progress.TheVariants.{More, Whole}
+use Rattle.rws_link.specs.declared.step.LinkStep.{LinkStep}
+use Rattle.rws_link.specs.declared.step.LinkStep.TheVariants as steps
 use Rattle.rws_board.specs.declared.action.Action.{Action}
 use Rattle.rws_board.specs.declared.action.Action.TheVariants as actions
 use Rattle.rws_config.specs.declared.config.Config.{Config}
@@ -16,19 +17,15 @@ use Rattle.rws_record.specs.declared.command.Command.{Command}
 use Rattle.rws_record.specs.Item.{Item, Judged, Put}
 use Rattle.rws_record.specs.Item.Item.{Puts}
 use Rattle.rws_record.specs.Item.Judged.{Serves}
-use Rattle.rws_record.specs.Item.Purpose.{Asks}
-use Rattle.rws_record.specs.Values.{asked}
-use Rattle.rws_record.specs.Rules.{is_link, Loss, loss_by, sends_again, has_transaction, is_replayable, after_loss_by, is_loss, after_command, next, unasked}
+use Rattle.rws_record.specs.Rules.{is_link, Loss, loss_by, sends_again, has_transaction, is_replayable, after_loss_by, is_loss, drop_cause, form_of, after_command, next, unasked}
 use Rattle.rws_record.specs.Record.{GoesOn}
 use Rattle.rws_record.specs.Errors.{error_of}
 use Rattle.rws_record.specs.Outputs.{actions_of, own_ok, outs_of}
-use Rattle.rws_session.specs.declared.link.Arrival.{Arrival}
-use Rattle.rws_session.specs.declared.link.Arrival.TheVariants as arrivals
-use Rattle.rws_session.specs.declared.link.Link.{Link}
+use Rattle.rws_session.specs.declared.links.NumberedLink.{NumberedLink}
 use Rattle.rws_session.specs.declared.owing.Out.{Out}
 use Rattle.rws_session.specs.declared.owing.Out.TheVariants as outs
-use Rattle.rws_session.specs.State.{State, erased, awaited_of, state_of}
-use Rattle.rws_session.specs.Table.{at, owing, without_number}
+use Rattle.rws_session.specs.State.{State, erased, state_of}
+use Rattle.rws_session.specs.Table.{without_number}
 use Rattle.rws_session.specs.Kept.{Is, Kept, lasting, lasting_of}
 
 -- What is given out
@@ -84,20 +81,18 @@ after_out (outs.Close reason) s = ends s
 abbrev pub gives : Out → Kept → Kept
 gives out k = record k { outs = k.outs ++ action_of k.number out ∷ []; state = after_out out k.state }
 
--- a command goes out on a link, which owes the reply from then on
-abbrev pub sends : ℕ → Command → Kept → Kept
-sends link command k = record k {
+-- a command goes out on a link; these are the links then
+abbrev pub sends : ℕ → Command → List NumberedLink → Kept → Kept
+sends link command links k = record k {
   outs = k.outs ++ actions.ToLink link (spelling 0 command.payload) ∷ [];
-  state = record k.state {
-    links = at link (owing (awaited_of (asked (Asks command)))) k.state.links;
-    sent_on = Some link;
-  };
+  state = record k.state { links = links; sent_on = Some link };
 }
 
--- the pending command goes out on a link
-abbrev pub SendsPending : ℕ → Option Command → Kept → Kept → Type 0
-SendsPending link (Some command) old new = new ≡ sends link command old
-SendsPending link None old new = new ≡ old
+-- the pending command went out on a link, or nothing did
+abbrev pub SendsPending : ℕ → Option Command → Bool → Kept → Kept → Type 0
+SendsPending link (Some command) true old new = new ≡ sends link command new.state.links old
+SendsPending link None true old new = ⊥
+SendsPending link pending false old new = new ≡ record old { state = record old.state { links = new.state.links } }
 
 -- What is read and taken up
 
@@ -120,25 +115,22 @@ takes judgement number s = record s {
 }
 
 -- what follows on a payload of the pending command's reply, which is this in the client's form
-abbrev pub owes_reply : ℕ → (form : List ℕ) → Option Progress → (behind : Bool) → (number : ℕ) → List (Option Out)
-owes_reply link form None behind number = Some (outs.Drop link BadReply) ∷ []
-owes_reply link form (Some More) behind number = Some (outs.Pass number link form None) ∷ []
-owes_reply link form (Some (Whole outcome)) behind number =
+abbrev pub owes_reply : ℕ → (form : List ℕ) → Progress → (behind : Bool) → (number : ℕ) → List (Option Out)
+owes_reply link form More behind number = Some (outs.Pass number link form None) ∷ []
+owes_reply link form (Whole outcome) behind number =
     Some (outs.Pass number link form (Some outcome)) ∷ map erased (unasked link behind)
 
--- what follows on what a link's bytes complete
-abbrev pub owes_for : ℕ → Arrival → (number : ℕ) → List (Option Out)
-owes_for link (arrivals.Reply payload form next progress behind) number =
-    owes_reply link (unwrap_or form payload) progress behind number
-owes_for link (arrivals.Garbled fault) number = Some (outs.Drop link BadWire) ∷ []
-owes_for link arrivals.Stray number = Some (outs.Drop link Unasked) ∷ []
+-- what follows on what a link says
+abbrev pub owes_for : ℕ → LinkStep → (number : ℕ) → List (Option Out)
+owes_for link (steps.Part payload role progress next behind) number = owes_reply link (form_of role payload) progress behind number
+owes_for link (steps.Lost cause) number = Some (outs.Drop link (drop_cause cause)) ∷ []
+owes_for link (steps.Send bytes) number = []
+owes_for link steps.LoggedIn number = []
+owes_for link steps.Idle number = []
 
--- the link that the pending command is to be sent on
-abbrev pub sendable_by : Option Command → (sent kept : Option ℕ) → List Link → Option ℕ
-sendable_by pending sent None links = None
-sendable_by pending sent (Some link) links =
-    if is_some pending && is_none sent then (if list_any (λ other. other.number == link) links then Some link else None)
-    else None
+-- the link that a pending command is to go on that wasn't sent yet
+abbrev pub going_on : Option Command → (sent kept : Option ℕ) → Option ℕ
+going_on pending sent kept = if (is_some pending && is_none sent) then kept else None
 
 -- Tries
 

@@ -2,7 +2,6 @@
 #![tactic(auto)]
 
 mod input;
-mod link;
 mod links;
 mod owing;
 mod session;

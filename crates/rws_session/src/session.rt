@@ -3,6 +3,7 @@
 //! Between any two steps its state is that of its record (`state_of` of specs/State.antt), also while outputs are owed.
 ghost use Rattle.std.specs.Prelude.{◌≡◌, ◌∷◌, List, [], Some, None, IfOk, OnOk, MatchOption, OnErr, ◌==◌, length, is_some, ◌&&◌};
 ghost use Rattle.std.specs.List.{list_any};
+ghost use Rattle.rws_link.specs.Linking.{is_awaiting};
 ghost use Rattle.rws_session.specs.State.{farewell_packet};
 
 mod giving;
@@ -202,7 +203,7 @@ impl Session {
 
     /// The same, said of what is kept.
     fn is_owed_by(&self, number: u64) -> bool
-        ensures { result ≡ list_any (λ link. link.number == number && is_some link.awaited) self.now.state.links }
+        ensures { result ≡ list_any (λ link. link.number == number && is_awaiting link.link) self.now.state.links }
     {
         self.links.awaits(number)
     }

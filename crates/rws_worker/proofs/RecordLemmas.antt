@@ -3,7 +3,7 @@ use Rattle.std.proofs.Common.{◌≡◌, ◌==◌, ℕ, ◌<◌, Bool, true, fal
 use Rattle.std.proofs.lemmas.Bool.{ne_eqb, eq-eqb}
 use Rattle.rws_config.specs.declared.config.Config.{Config}
 use Rattle.rws_record.specs.Item.{Item}
-use Rattle.rws_record.specs.Item.Item.{Began, ClientBytes, LinkBytes, ClientGone, LinkLost, Replies, Garbles, Strays, Takes, TakesFault, Puts, Starves, Floods}
+use Rattle.rws_record.specs.Item.Item.{Began, ClientBytes, LinkBytes, ClientGone, LinkLost, Comes, Takes, TakesFault, Floods, Puts, Starves}
 use Rattle.rws_record.specs.Item.Put.{Tells, Sends, Drops, Closes}
 use Rattle.rws_record.specs.Values.{opens, links, contains, without}
 use Rattle.rws_record.specs.Run.{Entry, IsRun, record_of, owner, last_link}
@@ -91,9 +91,7 @@ still_has (ClientBytes bytes) past link none e = e
 still_has (LinkBytes from bytes) past link none e = e
 still_has ClientGone past link none e = e
 still_has (LinkLost lost) past link none e = without_has lost link (links past) e
-still_has (Replies from part) past link none e = e
-still_has (Garbles from fault) past link none e = e
-still_has (Strays from) past link none e = e
+still_has (Comes from said) past link none e = e
 still_has (Takes judged number) past link none e = e
 still_has (TakesFault fault) past link none e = e
 still_has (Floods bytes) past link none e = e

@@ -11,7 +11,7 @@ ghost use Rattle.rws_session.specs.Table.{without_number};
 ghost use Rattle.rws_session.specs.Kept.{Holds};
 ghost use Rattle.rws_session.specs.Steps.{after_out, closes, ends, gives, gives_up, loses, loss_in, passed};
 
-use crate::link::Link;
+use crate::links::NumberedLink;
 use crate::owing::Out;
 use crate::session::Session;
 use rws_board::Action;
@@ -172,7 +172,7 @@ impl Session {
 }
 
 /// Each link is to be given up, and nothing else is owed.
-fn farewells(links: &[Link], owed: &mut VecDeque<Out>) -> Result<(), AllocError>
+fn farewells(links: &[NumberedLink], owed: &mut VecDeque<Out>) -> Result<(), AllocError>
     ensures { OnOk result (map Some owed.new.items ≡ map (λ link. Some (outs.Drop link.number causes.End)) links.now) }
 {
     owed.clear();

@@ -1,8 +1,10 @@
 //! What comes to a session from outside changes what it keeps here, and nowhere else.
-ghost use Rattle.std.specs.Prelude.{◌≡◌, ◌++◌, List, true, IfOk, OnErr, OnOk};
+ghost use Rattle.std.specs.Prelude.{◌≡◌, ◌++◌, ◌∷◌, ℕ, List, true, map, IfOk, OnErr, OnOk};
 ghost use Rattle.rws_config.specs.declared.config.Config.{Config};
 ghost use Rattle.rws_record.specs.Item.{Item};
-ghost use Rattle.rws_session.specs.Table.{at, fed, without_number};
+ghost use Rattle.rws_record.specs.Item.Item.{LinkBytes};
+ghost use Rattle.rws_session.specs.State.{link_of};
+ghost use Rattle.rws_session.specs.Table.{AreDistinct, without_number};
 ghost use Rattle.rws_session.specs.Kept.{Holds, Stands};
 ghost use Rattle.rws_session.specs.Turning.{heard};
 ghost use Rattle.rws_session.specs.Steps.{Hears, HearsInPart, ends, loses};
@@ -61,9 +63,11 @@ impl Session {
         self.client.feed(bytes)
     }
 
-    /// Puts bytes behind those that a link's stream holds.
+    /// Hands bytes to the link that they came on.
     fn feed_link(&mut self, link: u64, bytes: &[u8]) -> Result<(), AllocError>
-        ensures ok { OnOk result (self.new ≡ record self.old { state = record self.old.state { links = at link (fed bytes.now) self.old.state.links } }) }
+        ensures fed { (past : List Item) (links : List ℕ) → self.old.state.links ≡ map (link_of past) links → AreDistinct links
+            → OnOk result (self.new.state.links ≡ map (link_of (LinkBytes link bytes.now ∷ past)) links) }
+        ensures rest { self.new ≡ record self.old { state = record self.old.state { links = self.new.state.links } } }
         ensures err { OnErr result (Holds self.old self.new) }
     {
         self.links.feed(link, bytes)

@@ -2,7 +2,7 @@
 //!
 //! What is owed comes first. Where nothing is owed and the session isn't over, the pending command is sent, then a flood behind
 //! it is refused, then what came on the links is read, and then the client's next command is taken up.
-ghost use Rattle.std.specs.Prelude.{◌≡◌, ◌∷◌, ◌++◌, ℕ, List, [], false, map, Some, None, IfOk, OnErr, OnOk, MatchOption, ◌&&◌, is_some, is_none, ◌+◌, length};
+ghost use Rattle.std.specs.Prelude.{◌≡◌, ◌+◌, ◌∷◌, ◌++◌, ℕ, length, List, [], false, map, Some, None, IfOk, OnErr, OnOk, IfSome, MatchOption, ◌&&◌, is_some, is_none};
 ghost use Rattle.rws_wire.specs.Deframing.{HandsOut};
 ghost use Rattle.rws_config.specs.declared.config.Config.{Config};
 ghost use Rattle.rws_config.specs.declared.limits.TheConstants.{FLOOD_ROOM};
@@ -11,25 +11,28 @@ ghost use Rattle.rws_record.specs.Item.Put.{Tells, Closes};
 ghost use Rattle.rws_record.specs.Item.Tell.{Refuses};
 ghost use Rattle.rws_record.specs.Judging.{judged};
 ghost use Rattle.rws_record.specs.Values.{is_over, links};
-ghost use Rattle.rws_record.specs.Rules.{after_fault, due_arrival, due_flood, flood_by, due_send, due_take, next, owed, unasked};
+ghost use Rattle.rws_record.specs.Rules.{after_fault, drop_cause, due_arrival, due_flood, flood_by, due_send, due_take, form_of, next, owed, unasked};
 ghost use Rattle.rws_session.specs.State.{erased, link_of};
-ghost use Rattle.rws_session.specs.Table.{AreDistinct, AreSound, ReadsFirst};
+ghost use Rattle.rws_session.specs.Table.{AreDistinct, ReadsFirst, SendsOn};
 ghost use Rattle.rws_session.specs.Kept.{Holds, Is};
-ghost use Rattle.rws_session.specs.Steps.{SendsPending, Tries, due_put, owes, owes_for, owes_reply, sendable_by, takes};
+ghost use Rattle.rws_session.specs.Steps.{SendsPending, Tries, due_put, going_on, owes, owes_for, owes_reply, takes};
 
-use crate::link::{Arrival, Awaited};
 use crate::owing::Out;
 use crate::session::Session;
 use rws_board::Action;
 use rws_config::FLOOD_ROOM;
+use rws_link::{LinkCause, LinkStep};
 use rws_msgs::status::AUTOCOMMIT;
 use rws_record::{Command, ProxyError, Request};
-use rws_reply::{Kind, Progress, ReplyTracker};
-use rws_wire::{CloseReason, DropCause, NextError, Payload, Text, WireFault, frame};
+use rws_reply::{Kind, Progress, Role, client_payload};
+use rws_wire::{CloseReason, DropCause, NextError, Payload, Text, WireFault};
 use std::alloc::AllocError;
 
 /// The status of the proxy's own OKs: autocommit is on, and no transaction is open.
 const OWN_STATUS: u16 = AUTOCOMMIT;
+
+/// The handle that a prepared statement has for its client. None is prepared yet, so no payload of a reply names one.
+const PREPARED_HANDLE: u32 = 0;
 
 impl Session {
     /// Makes the next step, and says whether there was one.
@@ -80,60 +83,48 @@ impl Session {
         self.owed.pop_front()
     }
 
-    /// Sends the pending command, where it isn't sent yet.
+    /// Sends the pending command, where it isn't sent yet, as soon as the link that the session is kept on may be sent one.
     fn send(&mut self) -> Result<bool, AllocError>
         ensures ok { (config : Config) (past : List Item) → Is config self.old past → owed past ≡ []
             → IfOk result (λ went. Tries config (due_send past) past went self.old self.new) }
         ensures err { OnErr result (Holds self.old self.new) }
     {
-        match self.sendable() {
+        match self.going_on() {
             None => Ok(false),
-            Some(link) => {
-                self.send_pending(link)?;
-                Ok(true)
-            }
+            Some(link) => self.send_pending(link),
         }
     }
 
-    /// The link that the pending command is to be sent on: that which the session is kept on, if it has it.
-    fn sendable(&self) -> Option<u64>
-        ensures { result ≡ sendable_by self.now.state.pending self.now.state.sent_on self.now.state.kept_on self.now.state.links }
+    /// The link that the pending command is to go on, where it isn't sent yet.
+    fn going_on(&self) -> Option<u64>
+        ensures { result ≡ going_on self.now.state.pending self.now.state.sent_on self.now.state.kept_on }
     {
-        let link = self.kept_on?;
-        if !self.is_unsent() {
-            return None;
+        if self.is_busy() && self.sent_on.is_none() {
+            return self.kept_on;
         }
-        if !self.has(link) {
-            return None;
-        }
-        Some(link)
+        None
     }
 
-    /// A command is pending that isn't sent yet.
-    fn is_unsent(&self) -> bool
-        ensures { result ≡ (is_some self.now.state.pending && is_none self.now.state.sent_on) }
-    {
-        self.is_busy() && self.sent_on.is_none()
-    }
-
-    /// Sends the pending command on a link.
-    fn send_pending(&mut self, link: u64) -> Result<(), AllocError>
-        ensures ok { OnOk result (SendsPending link self.old.state.pending self.old self.new) }
+    /// Sends the pending command on a link, if that may be sent one.
+    fn send_pending(&mut self, link: u64) -> Result<bool, AllocError>
+        ensures sends { IfOk result (λ went. SendsPending link self.old.state.pending went self.old self.new) }
+        ensures links { (past : List Item) (numbers : List ℕ) → self.old.state.links ≡ map (link_of past) numbers → AreDistinct numbers
+            → IfSome self.old.state.pending (λ command. IfOk result (λ went. SendsOn link command past numbers went self.new.state.links)) }
         ensures err { OnErr result (Holds self.old self.new) }
     {
         let Some(command) = &self.pending else {
-            return Ok(());
+            return Ok(false);
         };
         let mut bytes = Vec::new(self.alloc);
-        let next = frame(command.payload.as_slice(), 0, &mut bytes)?;
-        let tracker = ReplyTracker::new(command.kind);
+        if !self.links.send(link, command, &mut bytes)? {
+            return Ok(false);
+        }
         self.outs.push_back(Action::ToLink {
             link,
             bytes: Text::new(bytes),
         })?;
-        self.links.ask(link, Awaited { next, tracker });
         self.sent_on = Some(link);
-        Ok(())
+        Ok(true)
     }
 
     /// Breaks the session off where the client sent on too far behind the pending command.
@@ -167,57 +158,74 @@ impl Session {
         None
     }
 
-    /// Reads what came on the links, in order of number, up to the first thing that is whole.
+    /// Asks the links, in order of number, up to the first that has something to say.
     fn read_links(&mut self) -> Result<bool, AllocError>
-        ensures ok { (config : Config) (past : List Item) → Is config self.old past → owed past ≡ [] → is_over past ≡ false
+        ensures ok { (config : Config) (past : List Item) → Is config self.old past → owed past ≡ []
             → IfOk result (λ went. Tries config (due_arrival (links past) past) past went self.old self.new) }
         ensures err { OnErr result (Holds self.old self.new) }
     {
-        match self.next_arrival()? {
+        match self.next_coming()? {
             None => Ok(false),
-            Some((link, arrival)) => {
-                self.take_arrival(link, arrival)?;
+            Some((link, said)) => {
+                self.take_coming(link, said)?;
                 Ok(true)
             }
         }
     }
 
-    /// What the links' bytes complete first, and on which link.
-    fn next_arrival(&mut self) -> Result<Option<(u64, Arrival)>, AllocError>
+    /// What the first link says that has something to say, and which it is.
+    fn next_coming(&mut self) -> Result<Option<(u64, LinkStep)>, AllocError>
         ensures reads { (past : List Item) (numbers : List ℕ) → self.old.state.links ≡ map (link_of past) numbers → AreDistinct numbers
-            → AreSound past numbers → IfOk result (λ found. ReadsFirst past numbers found self.new.state.links) }
+            → IfOk result (λ found. ReadsFirst past numbers found self.new.state.links) }
         ensures rest { self.new ≡ record self.old { state = record self.old.state { links = self.new.state.links } } }
         ensures holds { Holds self.old self.new }
     {
-        self.links.read(self.alloc)
+        self.links.read()
     }
 
-    /// Decides what follows on what a link's bytes completed.
-    fn take_arrival(&mut self, link: u64, arrival: Arrival) -> Result<(), AllocError>
+    /// Decides what follows on what a link says. Each link is past its login.
+    fn take_coming(&mut self, link: u64, said: LinkStep) -> Result<(), AllocError>
         ensures ok { OnOk result (self.new ≡ record self.old {
           state = record self.old.state {
-            owed = owes_for link arrival self.old.state.reply_number ++ self.old.state.owed;
+            owed = owes_for link said self.old.state.reply_number ++ self.old.state.owed;
           };
         }) }
         ensures err { OnErr result (Holds self.old self.new) }
     {
-        match arrival {
-            Arrival::Stray => self.owe(Out::Drop {
-                link,
-                cause: DropCause::Unasked,
-            }),
-            Arrival::Garbled(_) => self.owe(Out::Drop {
-                link,
-                cause: DropCause::BadWire,
-            }),
-            Arrival::Reply {
+        match said {
+            LinkStep::Part {
                 payload,
-                form,
-                next: _,
+                role,
                 progress,
+                next: _,
                 behind,
-            } => self.take_reply(link, form.unwrap_or(payload), progress, behind),
+            } => self.take_part(link, payload, role, progress, behind),
+            LinkStep::Lost(cause) => self.owe(Out::Drop {
+                link,
+                cause: drop_cause(cause),
+            }),
+            LinkStep::Send(_) | LinkStep::LoggedIn | LinkStep::Idle => Ok(()),
         }
+    }
+
+    /// A payload of the pending command's reply came: it goes to the client in the client's form.
+    fn take_part(
+        &mut self,
+        link: u64,
+        payload: Text,
+        role: Role,
+        progress: Progress,
+        behind: bool,
+    ) -> Result<(), AllocError>
+        ensures ok { OnOk result (self.new ≡ record self.old {
+          state = record self.old.state {
+            owed = owes_reply link (form_of role payload) progress behind self.old.state.reply_number ++ self.old.state.owed;
+          };
+        }) }
+        ensures err { OnErr result (Holds self.old self.new) }
+    {
+        let form = client_payload(self.alloc, role, payload.as_slice(), PREPARED_HANDLE)?;
+        self.take_reply(link, form.unwrap_or(payload), progress, behind)
     }
 
     /// Decides what follows on a payload of the pending command's reply, in the client's form.
@@ -225,7 +233,7 @@ impl Session {
         &mut self,
         link: u64,
         payload: Text,
-        progress: Option<Progress>,
+        progress: Progress,
         behind: bool,
     ) -> Result<(), AllocError>
         ensures ok { OnOk result (self.new ≡ record self.old {
@@ -237,17 +245,13 @@ impl Session {
     {
         let number = self.reply_number;
         match progress {
-            None => self.owe(Out::Drop {
-                link,
-                cause: DropCause::BadReply,
-            }),
-            Some(Progress::More) => self.owe(Out::Pass {
+            Progress::More => self.owe(Out::Pass {
                 number,
                 link,
                 payload,
                 outcome: None,
             }),
-            Some(Progress::Whole(outcome)) => {
+            Progress::Whole(outcome) => {
                 self.owe_unasked(link, behind)?;
                 self.owe(Out::Pass {
                     number,
@@ -394,5 +398,19 @@ impl Session {
     {
         self.owe(Out::Close { reason })?;
         self.owe(Out::Refuse { number: 1, error })
+    }
+}
+
+/// Why a link that is lost is given up.
+fn drop_cause(cause: LinkCause) -> DropCause
+    ensures { result ≡ drop_cause cause }
+{
+    match cause {
+        LinkCause::BadWire => DropCause::BadWire,
+        LinkCause::BadReply => DropCause::BadReply,
+        LinkCause::Unasked => DropCause::Unasked,
+        LinkCause::Greeting => DropCause::Greeting,
+        LinkCause::Plugin => DropCause::Plugin,
+        LinkCause::Login { code } => DropCause::Login { code },
     }
 }

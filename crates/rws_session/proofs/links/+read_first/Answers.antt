@@ -1,15 +1,14 @@
-use Rattle.std.proofs.Common.{sym, ◌∙◌}
+use Rattle.std.proofs.Common.{sym, ◌∙◌, refl}
 use Rattle.rws_session.proofs.TableLemmas.{read_here, read_behind}
 use Rattle.rws_session.proofs.links.+read_first.Goals as goal
 
-pub returns-in-Some-2-clause-ok : goal.returns-in-Some-2-clause-ok
-returns-in-Some-2-clause-ok t c = λ past numbers are distinct sound.
-    read_here past numbers c.in-Some.link.now c.read.new.self c.in-Some.others.now c.in-Some-2.arrival
-    (sym c.in-Some.ensures.cases.0 ∙ are) distinct sound
-    (λ number is unfaulted. rw c.in-Some-2.is at (c.in_ok-arrival-in-Some.ensures.ok past number is unfaulted))
+pub returns-in-Idle-clause-ok : goal.returns-in-Idle-clause-ok
+returns-in-Idle-clause-ok t c = λ past numbers are distinct.
+    read_behind past numbers c.in-Some.first.now (record c.in-Some.first.now { link = c.next.new.self }) c.in-Some.others.now _
+    (sym c.in-Some.ensures.cases.0 ∙ are) distinct refl (rw c.in-Idle.is at c.in_ok-said-in-Some.ensures.ok) c.read_first.result
+    (λ rest. c.read_first.ensures.ok past rest)
 
-pub returns-in-None-2-clause-ok : goal.returns-in-None-2-clause-ok
-returns-in-None-2-clause-ok t c = λ past numbers are distinct sound.
-    read_behind past numbers c.in-Some.link.now c.read.new.self c.in-Some.others.now _ (sym c.in-Some.ensures.cases.0 ∙ are) distinct sound
-    (λ number is unfaulted. rw c.in-None-2.is at (c.in_ok-arrival-in-Some.ensures.ok past number is unfaulted))
-    c.read_first.result (c.read_first.ensures.ok past)
+pub returns-in_default-clause-ok : goal.returns-in_default-clause-ok
+returns-in_default-clause-ok t c = λ past numbers are distinct.
+    read_here past numbers c.in-Some.first.now (record c.in-Some.first.now { link = c.next.new.self }) c.in-Some.others.now
+    c.in_ok-said-in-Some.said (sym c.in-Some.ensures.cases.0 ∙ are) distinct c.in_default.not-Idle refl c.in_ok-said-in-Some.ensures.ok

@@ -1,8 +1,9 @@
 use Rattle.std.proofs.Common.{ap, ◌∙◌}
-use Rattle.std.specs.Prelude.{◌==◌, ◌&&◌, is_some}
+use Rattle.std.specs.Prelude.{◌==◌, ◌&&◌}
 use Rattle.std.specs.List.{list_any}
+use Rattle.rws_link.specs.Linking.{is_awaiting}
 use Rattle.rws_record.specs.Values.{links}
-use Rattle.rws_session.specs.declared.link.Link.{Link}
+use Rattle.rws_session.specs.declared.links.NumberedLink.{NumberedLink}
 use Rattle.rws_session.specs.State.{State}
 use Rattle.rws_session.proofs.TableLemmas.{awaits_is}
 use Rattle.rws_session.proofs.session.Session.awaits.Goals as goal
@@ -10,5 +11,5 @@ use Rattle.rws_session.proofs.session.Session.awaits.Goals as goal
 pub returns : goal.returns
 returns c = λ config past stands.
     c.is_owed_by.ensures
-    ∙ ap (list_any (λ (link : Link). link.number == c.args.link && is_some link.awaited)) (ap (λ (s : State). s.links) stands.is.mirrors)
+    ∙ ap (list_any (λ (link : NumberedLink). link.number == c.args.link && is_awaiting link.link)) (ap (λ (s : State). s.links) stands.is.mirrors)
     ∙ awaits_is past c.args.link (links past)

@@ -22,7 +22,7 @@ pub returns-in_ok-feed_link-in-Link-clause-ok : goal.returns-in_ok-feed_link-in-
 returns-in_ok-feed_link-in-Link-clause-ok c = λ config past stands.
     rw c.in-Link.is (hears_bytes config past c.in-Link.link c.in-Link.bytes c.args.self.now c.feed_link.new.self stands
     (sym c.ended.ensures ∙ c.if-ended.false) c.if-not-has.ensures
-    (rw c.as_slice-in-Link.ensures at c.in_ok-feed_link-in-Link.ensures.ok))
+    (rw c.as_slice-in-Link.ensures at c.in_ok-feed_link-in-Link.ensures.fed) c.in_ok-feed_link-in-Link.ensures.rest)
 
 pub returns-then-not-has-2-clause-ok : goal.returns-then-not-has-2-clause-ok
 returns-then-not-has-2-clause-ok c = λ config past stands.

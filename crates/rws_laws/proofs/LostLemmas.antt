@@ -1,0 +1,292 @@
+-- Why a link is lost: of a session that goes on and owes nothing it is since a byte came that nobody awaited.
+use Rattle.std.proofs.Common.{◌≡◌, ℕ, Bool, true, false, List, [], ◌∷◌, ◌++◌, refl, sym, ap, subst, ◌∙◌, inl, inr, Option, Some, None, eqb-true}
+use Rattle.std.specs.Prelude.{◌⊎◌, Contains, ◌==◌, if◌then◌else◌}
+use Rattle.rws_wire.specs.Payloads.{Beginning, first_payload}
+use Rattle.rws_wire.specs.Payloads.Beginning.{Nothing, Whole, Faulty}
+use Rattle.rws_reply.specs.declared.kind.Outcome.{Outcome}
+use Rattle.rws_reply.specs.declared.kind.Progress.{Progress}
+use Rattle.rws_reply.specs.declared.kind.Progress.TheVariants.{More, Whole as Ends}
+use Rattle.rws_reply.specs.declared.role.Role.{Role}
+use Rattle.rws_reply.specs.Tracking.{progress, role}
+use Rattle.rws_reply.proofs.ProgressLemmas.{progress_is_exact}
+use Rattle.rws_wire.specs.declared.drop_cause.DropCause.{DropCause}
+use Rattle.rws_config.specs.declared.config.Config.{Config}
+use Rattle.rws_config.specs.declared.limits.TheConstants.{SERVER_PAYLOAD}
+use Rattle.rws_link.specs.declared.step.LinkCause.{LinkCause}
+use Rattle.rws_link.specs.declared.step.LinkCause.TheVariants.{BadWire, BadReply, Unasked}
+use Rattle.rws_link.specs.declared.step.LinkStep.{LinkStep}
+use Rattle.rws_link.specs.declared.step.LinkStep.TheVariants as steps
+use Rattle.rws_link.specs.Stepping.{LinkState, LogsIn, Rests, Awaits, IsLost, Exchange, behind_part, fed, read_by, replied, replied_by, sent, settled, step, with_part}
+use Rattle.rws_record.specs.Item.{Item, Purpose, Put}
+use Rattle.rws_record.specs.Item.Item.{Began, ClientBytes, LinkBytes, ClientGone, LinkLost, Comes, Takes, TakesFault, Floods, Puts, Starves}
+use Rattle.rws_record.specs.Item.Put.{Tells, Sends, Drops, Closes}
+use Rattle.rws_record.specs.Item.Purpose.{Asks}
+use Rattle.rws_record.specs.Values.{awaited, contains, is_starved, kind_of, linked, links, sent_for, unread}
+use Rattle.rws_record.specs.Rules.{drop_cause, owed}
+use Rattle.rws_record.specs.Record.{IsRecord, IsInput}
+use Rattle.rws_record.specs.Record.IsRecord.{begins, steps as goes, hears, starves}
+use Rattle.rws_record.proofs.LinkedLemmas.{Says, after_loss_is, after_part_is, logs_in, never_logs_in}
+use Rattle.rws_record.proofs.LinkedLemmas.Says.{part, garbled, wrong, again}
+use Rattle.rws_record.proofs.StepLemmas.{Due, Step, of_next, rests_owing_nothing}
+use Rattle.rws_record.proofs.StepLemmas.Due.{comes, takes, takes_fault}
+use Rattle.rws_record.proofs.StepLemmas.Step.{pays, sends, floods, reads}
+use Rattle.rws_record.proofs.WantLemmas.{input_starved, step_starved}
+use Rattle.rws_record.proofs.WithoutLemmas.{without_has_not, without_keeps_out}
+use Rattle.rws_laws.specs.Causes.{WasUnasked}
+use Rattle.rws_laws.specs.Causes.WasUnasked.{resting, behind_reply, earlier}
+
+-- A byte that nobody awaited
+
+fed_unasked : (past : List Item) (link : ℕ) (bytes : List ℕ) (state : LinkState) → linked link past ≡ state
+    → fed bytes state ≡ IsLost Unasked → (linked link past ≡ IsLost Unasked → WasUnasked link past)
+    → WasUnasked link (LinkBytes link bytes ∷ past)
+fed_unasked past link bytes (LogsIn handshake unread) is now below = absurd cc
+fed_unasked past link [] Rests is now below = absurd cc
+fed_unasked past link (byte ∷ rest) Rests is now below = resting is
+fed_unasked past link bytes (Awaits e unread) is now below = absurd cc
+fed_unasked past link bytes (IsLost cause) is now below = earlier (below (is ∙ now))
+
+module _ (past : List Item) (link : ℕ) (said : LinkStep) (e : Exchange) (bytes : List ℕ) (is : linked link past ≡ Awaits e bytes) where
+  settled_unasked : (payload rest : List ℕ) (number : ℕ) (outcome : Outcome) → first_payload SERVER_PAYLOAD e.next bytes ≡ Whole payload number rest
+      → progress e.kind e.sofar payload ≡ Some (Ends outcome) → settled rest ≡ IsLost Unasked → WasUnasked link (Comes link said ∷ past)
+  settled_unasked payload [] number outcome f p now = absurd cc
+  settled_unasked payload (byte ∷ rest) number outcome f p now =
+      behind_reply {e = e} {payload = payload} {rest = rest} {byte = byte} {number = number} outcome (ap awaited is)
+      (ap (λ (s : LinkState). first_payload SERVER_PAYLOAD e.next (unread s)) is ∙ f)
+      (((progress_is_exact e.kind e.sofar payload).whole outcome).0 p)
+
+  part_unasked : (payload rest : List ℕ) (number : ℕ) (far : Progress) → first_payload SERVER_PAYLOAD e.next bytes ≡ Whole payload number rest
+      → progress e.kind e.sofar payload ≡ Some far → behind_part (with_part payload number e) rest far ≡ IsLost Unasked
+      → WasUnasked link (Comes link said ∷ past)
+  part_unasked payload rest number More f p now = absurd cc
+  part_unasked payload rest number (Ends outcome) f p now = settled_unasked payload rest number outcome f p now
+
+  replied_unasked : (payload rest : List ℕ) (number : ℕ) (its : Option Role) (far : Option Progress)
+      → first_payload SERVER_PAYLOAD e.next bytes ≡ Whole payload number rest → progress e.kind e.sofar payload ≡ far
+      → (replied_by e payload number rest its far).after ≡ IsLost Unasked → WasUnasked link (Comes link said ∷ past)
+  replied_unasked payload rest number (Some its) (Some far) f p now = part_unasked payload rest number far f p now
+  replied_unasked payload rest number (Some its) None f p now = absurd cc
+  replied_unasked payload rest number None (Some far) f p now = absurd cc
+  replied_unasked payload rest number None None f p now = absurd cc
+
+  read_unasked : (found : Beginning) → first_payload SERVER_PAYLOAD e.next bytes ≡ found
+      → (read_by (Awaits e bytes) (replied e) found).after ≡ IsLost Unasked → WasUnasked link (Comes link said ∷ past)
+  read_unasked Nothing f now = absurd cc
+  read_unasked (Whole payload number rest) f now =
+      replied_unasked payload rest number (role e.kind e.sofar payload) (progress e.kind e.sofar payload) f refl now
+  read_unasked (Faulty fault) f now = absurd cc
+
+step_unasked : (past : List Item) (link : ℕ) (said : LinkStep) (state : LinkState) → linked link past ≡ state → logs_in state ≡ false
+    → (step state).after ≡ IsLost Unasked → (linked link past ≡ IsLost Unasked → WasUnasked link past)
+    → WasUnasked link (Comes link said ∷ past)
+step_unasked past link said (LogsIn handshake unread) is n now below = absurd cc
+step_unasked past link said Rests is n now below = absurd cc
+step_unasked past link said (Awaits e bytes) is n now below =
+    read_unasked past link said e bytes is (first_payload SERVER_PAYLOAD e.next bytes) refl now
+step_unasked past link said (IsLost cause) is n now below = earlier (below (is ∙ now))
+
+pub was_unasked : (link : ℕ) (past : List Item) → linked link past ≡ IsLost Unasked → WasUnasked link past
+was_unasked link [] now = absurd cc
+was_unasked link (Began opened server ∷ past) now = by_test (opened == link) now (was_unasked link past)
+  where
+    by_test : (test : Bool) → (if test then Rests else linked link past) ≡ IsLost Unasked
+        → (linked link past ≡ IsLost Unasked → WasUnasked link past) → WasUnasked link (Began opened server ∷ past)
+    by_test true now below = absurd cc
+    by_test false now below = earlier (below now)
+was_unasked link (LinkBytes from bytes ∷ past) now = by_test (from == link) refl now (was_unasked link past)
+  where
+    by_test : (test : Bool) → (from == link) ≡ test → (if test then fed bytes (linked link past) else linked link past) ≡ IsLost Unasked
+        → (linked link past ≡ IsLost Unasked → WasUnasked link past) → WasUnasked link (LinkBytes from bytes ∷ past)
+    by_test true t now below =
+        subst (λ (l : ℕ). WasUnasked link (LinkBytes l bytes ∷ past)) (sym (eqb-true from link t))
+        (fed_unasked past link bytes (linked link past) refl now below)
+    by_test false t now below = earlier (below now)
+was_unasked link (Comes from said ∷ past) now = by_test (from == link) refl now (was_unasked link past)
+  where
+    by_test : (test : Bool) → (from == link) ≡ test → (if test then (step (linked link past)).after else linked link past) ≡ IsLost Unasked
+        → (linked link past ≡ IsLost Unasked → WasUnasked link past) → WasUnasked link (Comes from said ∷ past)
+    by_test true t now below =
+        subst (λ (l : ℕ). WasUnasked link (Comes l said ∷ past)) (sym (eqb-true from link t))
+        (step_unasked past link said (linked link past) refl (never_logs_in link past) now below)
+    by_test false t now below = earlier (below now)
+was_unasked link (Puts (Sends to purpose) ∷ past) now = by_test (to == link) now (was_unasked link past)
+  where
+    by_test : (test : Bool)
+        → (if test then sent (sent_for purpose) (Some (kind_of purpose)) else linked link past) ≡ IsLost Unasked
+        → (linked link past ≡ IsLost Unasked → WasUnasked link past) → WasUnasked link (Puts (Sends to purpose) ∷ past)
+    by_test true now below = absurd cc
+    by_test false now below = earlier (below now)
+was_unasked link (ClientBytes bytes ∷ past) now = earlier (was_unasked link past now)
+was_unasked link (ClientGone ∷ past) now = earlier (was_unasked link past now)
+was_unasked link (LinkLost gone ∷ past) now = earlier (was_unasked link past now)
+was_unasked link (Takes judged number ∷ past) now = earlier (was_unasked link past now)
+was_unasked link (TakesFault fault ∷ past) now = earlier (was_unasked link past now)
+was_unasked link (Floods bytes ∷ past) now = earlier (was_unasked link past now)
+was_unasked link (Starves made ∷ past) now = earlier (was_unasked link past now)
+was_unasked link (Puts (Tells number tell) ∷ past) now = earlier (was_unasked link past now)
+was_unasked link (Puts (Drops given cause) ∷ past) now = earlier (was_unasked link past now)
+was_unasked link (Puts (Closes reason) ∷ past) now = earlier (was_unasked link past now)
+
+-- Whoever fails otherwise is given up at once
+
+-- a link is lost for this: for a byte that nobody awaited, or the session has it no more, or is about to give it up
+data Losing (link : ℕ) (cause : LinkCause) (past : List Item) : Type 0 where
+  unasked : cause ≡ Unasked → Losing link cause past
+  gone : contains link (links past) ≡ false → Losing link cause past
+  soon : owed past ≡ Drops link (drop_cause cause) ∷ [] → Losing link cause past
+
+abbrev AllLosing : List Item → Type 0
+AllLosing past = (link : ℕ) (cause : LinkCause) → linked link past ≡ IsLost cause → Losing link cause past
+
+-- an item that leaves the link as it was, where nothing was owed
+still : {past : List Item} {item : Item} {link : ℕ} {cause : LinkCause} → owed past ≡ []
+    → (contains link (links past) ≡ false → contains link (links (item ∷ past)) ≡ false) → Losing link cause past
+    → Losing link cause (item ∷ past)
+still o less (unasked is) = unasked is
+still o less (gone is) = gone (less is)
+still o less (soon is) = absurd cc
+
+-- what a link says that is lost by it
+
+settled_lost : (rest : List ℕ) (cause : LinkCause) → settled rest ≡ IsLost cause → cause ≡ Unasked
+settled_lost [] cause now = absurd cc
+settled_lost (byte ∷ rest) cause now = cc
+
+part_lost : (e : Exchange) (rest : List ℕ) (far : Progress) (cause : LinkCause) → behind_part e rest far ≡ IsLost cause → cause ≡ Unasked
+part_lost e rest More cause now = absurd cc
+part_lost e rest (Ends outcome) cause now = settled_lost rest cause now
+
+said_lost : (state : LinkState) (said : LinkStep) (cause : LinkCause) → Says state said → (step state).after ≡ IsLost cause
+    → (cause ≡ Unasked) ⊎ (said ≡ steps.Lost cause)
+said_lost state said cause (part {e = e} {unread = bytes} {payload = payload} {rest = rest} {number = number} {its = its} {far = far} f r p) now =
+    inl (part_lost (with_part payload number e) rest far cause (sym (after_part_is e bytes payload rest number its far f r p) ∙ now))
+said_lost state said cause (garbled f) now =
+    let same : IsLost _ ≡ IsLost cause = sym (after_loss_is state said _ (garbled f) refl) ∙ now in inr (cc)
+said_lost state said cause (wrong f p) now =
+    let same : IsLost _ ≡ IsLost cause = sym (after_loss_is state said _ (wrong f p) refl) ∙ now in inr (cc)
+said_lost state said cause again now = inr (cc)
+
+coming_loses : (past : List Item) (from : ℕ) (said : LinkStep) → owed past ≡ [] → Says (linked from past) said → AllLosing past
+    → AllLosing (Comes from said ∷ past)
+coming_loses past from said o it all = λ link cause now. by_test link cause (from == link) refl now
+  where
+    by_said : (link : ℕ) (cause : LinkCause) → from ≡ link → (cause ≡ Unasked) ⊎ (said ≡ steps.Lost cause)
+        → Losing link cause (Comes from said ∷ past)
+    by_said link cause same (inl is) = unasked is
+    by_said link cause same (inr is) = soon (rw is (ap (λ (l : ℕ). Drops l (drop_cause cause) ∷ []) same))
+
+    by_test : (link : ℕ) (cause : LinkCause) (test : Bool) → (from == link) ≡ test
+        → (if test then (step (linked link past)).after else linked link past) ≡ IsLost cause → Losing link cause (Comes from said ∷ past)
+    by_test link cause true t now =
+        let same : from ≡ link = eqb-true from link t in
+        by_said link cause same (said_lost (linked link past) said cause (subst (λ (l : ℕ). Says (linked l past) said) same it) now)
+    by_test link cause false t now = still o (λ less. less) (all link cause now)
+
+fed_loses : (past : List Item) (link : ℕ) (bytes : List ℕ) (cause : LinkCause) (state : LinkState) → linked link past ≡ state
+    → fed bytes state ≡ IsLost cause → (cause ≡ Unasked) ⊎ (linked link past ≡ IsLost cause)
+fed_loses past link bytes cause (LogsIn handshake unread) is now = absurd cc
+fed_loses past link [] cause Rests is now = absurd cc
+fed_loses past link (byte ∷ rest) cause Rests is now = inl (cc)
+fed_loses past link bytes cause (Awaits e unread) is now = absurd cc
+fed_loses past link bytes cause (IsLost other) is now = inr (is ∙ now)
+
+bytes_lose : (past : List Item) (from : ℕ) (bytes : List ℕ) → owed past ≡ [] → AllLosing past → AllLosing (LinkBytes from bytes ∷ past)
+bytes_lose past from bytes o all = λ link cause now. by_test link cause (from == link) now
+  where
+    by_cause : (link : ℕ) (cause : LinkCause) → (cause ≡ Unasked) ⊎ (linked link past ≡ IsLost cause)
+        → Losing link cause (LinkBytes from bytes ∷ past)
+    by_cause link cause (inl is) = unasked is
+    by_cause link cause (inr is) = still o (λ less. less) (all link cause is)
+
+    by_test : (link : ℕ) (cause : LinkCause) (test : Bool)
+        → (if test then fed bytes (linked link past) else linked link past) ≡ IsLost cause
+        → Losing link cause (LinkBytes from bytes ∷ past)
+    by_test link cause true now = by_cause link cause (fed_loses past link bytes cause (linked link past) refl now)
+    by_test link cause false now = by_cause link cause (inr now)
+
+sending_loses : (past : List Item) (to : ℕ) (purpose : Purpose)
+    → ((link : ℕ) (cause : LinkCause) → linked link past ≡ IsLost cause → Losing link cause (Puts (Sends to purpose) ∷ past))
+    → AllLosing (Puts (Sends to purpose) ∷ past)
+sending_loses past to purpose all = λ link cause now. by_test link cause (to == link) now
+  where
+    by_test : (link : ℕ) (cause : LinkCause) (test : Bool)
+        → (if test then sent (sent_for purpose) (Some (kind_of purpose)) else linked link past) ≡ IsLost cause
+        → Losing link cause (Puts (Sends to purpose) ∷ past)
+    by_test link cause true now = absurd cc
+    by_test link cause false now = all link cause now
+
+-- something is given out, but no link given up
+stays : (past : List Item) (put : Put) (link : ℕ) (cause : LinkCause) → (owed past ≡ Drops link (drop_cause cause) ∷ [] → ⊥)
+    → links (Puts put ∷ past) ≡ links past → Losing link cause past → Losing link cause (Puts put ∷ past)
+stays past put link cause other same (unasked is) = unasked is
+stays past put link cause other same (gone is) = gone (rw same is)
+stays past put link cause other same (soon is) = absurd (other is)
+
+given_up : (past : List Item) (other : ℕ) (why : DropCause) (others : List Put) (link : ℕ) (cause : LinkCause)
+    → owed past ≡ Drops other why ∷ others → Losing link cause past → Losing link cause (Puts (Drops other why) ∷ past)
+given_up past other why others link cause o (unasked is) = unasked is
+given_up past other why others link cause o (gone is) = gone (without_keeps_out other link (links past) is)
+given_up past other why others link cause o (soon is) =
+    let same : other ≡ link = cc in gone (rw same (without_has_not link (links past)))
+
+put_loses : (past : List Item) (put : Put) (others : List Put) → owed past ≡ put ∷ others → AllLosing past → AllLosing (Puts put ∷ past)
+put_loses past (Tells number tell) others o all = λ link cause now.
+    stays past (Tells number tell) link cause (λ is. let clash : Tells number tell ∷ others ≡ Drops link (drop_cause cause) ∷ [] = sym o ∙ is in cc)
+    refl (all link cause now)
+put_loses past (Sends to purpose) others o all =
+    sending_loses past to purpose (λ link cause now.
+    stays past (Sends to purpose) link cause (λ is. let clash : Sends to purpose ∷ others ≡ Drops link (drop_cause cause) ∷ [] = sym o ∙ is in cc)
+    refl (all link cause now))
+put_loses past (Drops other why) others o all = λ link cause now. given_up past other why others link cause o (all link cause now)
+put_loses past (Closes reason) others o all = λ link cause now.
+    stays past (Closes reason) link cause (λ is. let clash : Closes reason ∷ others ≡ Drops link (drop_cause cause) ∷ [] = sym o ∙ is in cc)
+    refl (all link cause now)
+
+due_loses : {config : Config} {past : List Item} {item : Item} → owed past ≡ [] → Due config past item → AllLosing past
+    → AllLosing (item ∷ past)
+due_loses {past = past} o (comes {link = from} {said = said} has a it) all = coming_loses past from said o it all
+due_loses o (takes p f) all = λ link cause now. still o (λ less. less) (all link cause now)
+due_loses o (takes_fault p f) all = λ link cause now. still o (λ less. less) (all link cause now)
+
+step_loses : {config : Config} {past : List Item} {item : Item} → Step config past item → AllLosing past → AllLosing (item ∷ past)
+step_loses {past = past} (pays {put = put} {others = others} o) all = put_loses past put others o all
+step_loses {past = past} (sends {link = to} {command = command} o n p s k c) all =
+    sending_loses past to (Asks command) (λ link cause now. still o (λ less. less) (all link cause now))
+step_loses (floods o n p above) all = λ link cause now. still o (λ less. less) (all link cause now)
+step_loses (reads o n due) all = due_loses o due all
+
+input_loses : (past : List Item) (item : Item) → owed past ≡ [] → IsInput item past → AllLosing past → AllLosing (item ∷ past)
+input_loses past (ClientBytes bytes) o input all = λ link cause now. still o (λ less. less) (all link cause now)
+input_loses past (LinkBytes from bytes) o input all = bytes_lose past from bytes o all
+input_loses past ClientGone o input all = λ link cause now. still o (λ less. less) (all link cause now)
+input_loses past (LinkLost lost) o input all = λ link cause now.
+    still o (λ less. without_keeps_out lost link (links past) less) (all link cause now)
+input_loses past _ o input all = absurd input
+
+begun_loses : (link server : ℕ) → AllLosing (Began link server ∷ [])
+begun_loses link server = λ other cause now. by_test other cause (link == other) now
+  where
+    by_test : (other : ℕ) (cause : LinkCause) (test : Bool) → (if test then Rests else Rests) ≡ IsLost cause
+        → Losing other cause (Began link server ∷ [])
+    by_test other cause true now = absurd cc
+    by_test other cause false now = absurd cc
+
+legal_losing : {config : Config} {past : List Item} → IsRecord config past → is_starved past ≡ false → AllLosing past
+legal_losing (begins link server) fed = begun_loses link server
+legal_losing {config} (goes {past = past} {item = item} legal next) fed =
+    let step = of_next config past item next in step_loses step (legal_losing legal (sym (step_starved step) ∙ fed))
+legal_losing {config} (hears {past = past} {item = item} legal rests n input) fed =
+    input_loses past item (rests_owing_nothing config past rests) input (legal_losing legal (sym (input_starved past item input) ∙ fed))
+legal_losing (starves legal once can) fed = absurd cc
+
+-- of a session that owes nothing, a link that it has is lost for nothing else
+abbrev pub AreUnasked : List Item → Type 0
+AreUnasked past = (link : ℕ) (cause : LinkCause) → contains link (links past) ≡ true → linked link past ≡ IsLost cause → cause ≡ Unasked
+
+pub legal_unasked : {config : Config} {past : List Item} → IsRecord config past → is_starved past ≡ false → owed past ≡ [] → AreUnasked past
+legal_unasked {past = past} legal fed o = λ link cause has now. by_losing link cause has (legal_losing legal fed link cause now)
+  where
+    by_losing : (link : ℕ) (cause : LinkCause) → contains link (links past) ≡ true → Losing link cause past → cause ≡ Unasked
+    by_losing link cause has (unasked is) = is
+    by_losing link cause has (gone is) = absurd cc
+    by_losing link cause has (soon is) = absurd cc
