@@ -1,15 +1,15 @@
 -- Bytes that begin with no whole payload and no fault are fewer than the longest payload takes.
-use Rattle.std.proofs.Common.{◌≡◌, ℕ, zero, suc, ◌+◌, ◌-◌, ◌*◌, ◌/◌, ◌<◌, ◌≤◌, List, [], ◌∷◌, ◌++◌, length, take, drop, refl, sym, ap, ◌∙◌, arith, inl, inr, add-one}
+use Rattle.std.proofs.Common.{◌≡◌, ℕ, zero, suc, ◌+◌, ◌-◌, ◌*◌, ◌/◌, ◌<◌, ◌≤◌, List, [], ◌∷◌, ◌++◌, length, take, drop, refl, sym, ap, ◌∙◌, arith, inl, inr}
 use Rattle.std.proofs.lemmas.Bool.{cases_eq, eq-eqb, ne_eqb}
-use Rattle.std.proofs.lemmas.List.{length-append, length-take, length-drop, nil_from_length}
+use Rattle.std.proofs.lemmas.List.{length-append, length-take, length-drop}
 use Rattle.std.proofs.Math.Nat.{div-eq-sub-div}
 use Rattle.rws_wire.specs.declared.packet.Packet.{Packet}
 use Rattle.rws_wire.specs.declared.packet.Packet.TheVariants.{Partial, Bad, More, Last}
-use Rattle.rws_wire.specs.Numbers.{bytes_of, number_of}
+use Rattle.rws_wire.specs.Numbers.{number_of}
 use Rattle.rws_wire.specs.Packets.{full_packet, packet, packets, next_number, spelled_length, spelling}
-use Rattle.rws_wire.specs.Payloads.{packet_of, packet_with, Beginning, Nothing, Whole, Faulty, continued, gathered, payload_behind, first_payload}
-use Rattle.rws_wire.proofs.PacketLemmas.{TellsFront, nothing, bad, goes_on, ends, tells_front, TellsRest, too_large, partial, full, last, tells_rest}
-use Rattle.rws_wire.proofs.PayloadLemmas.{behind_more, count_none, count_more, first_payload-is, full_packet-pos, length-behind, payload_behind-step}
+use Rattle.rws_wire.specs.Payloads.{packet_of, packet_with, Nothing, Whole, Faulty, continued, payload_behind, first_payload}
+use Rattle.rws_wire.proofs.PacketLemmas.{TellsFront, goes_on, tells_front, TellsRest, too_large, partial, full, last, tells_rest}
+use Rattle.rws_wire.proofs.PayloadLemmas.{behind_more, count_more, first_payload-is, full_packet-pos, payload_behind-step}
 
 -- a packet that isn't whole
 waits_with : (limit before announced : ℕ) (rest : List ℕ) (p : Packet) → TellsRest limit before announced rest p → p ≡ Partial

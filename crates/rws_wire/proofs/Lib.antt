@@ -7,6 +7,7 @@ pub mod PacketLemmas
 pub mod PayloadLemmas
 pub mod FramingLemmas
 pub mod GatheringLemmas
+pub mod DueLemmas
 pub mod DeframerLemmas
 -- what bytes begin with, and whole streams
 pub mod BeginningLemmas

@@ -6,6 +6,7 @@ pub mod LenencRead
 -- packets, payloads and streams
 pub mod Packets
 pub mod Payloads
+pub mod Due
 pub mod Gathering
 pub mod Deframing
 pub mod Beginnings

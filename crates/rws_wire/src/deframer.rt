@@ -4,8 +4,10 @@
 ghost use Rattle.std.specs.Prelude.{◌≡◌, ◌≤◌, ◌*◌, ◌++◌, List, ℕ, [], length, max, None, OnOk, OnErr, IfOk, IfSome};
 ghost use Rattle.std.specs.Vec.{vec_capacity};
 ghost use Rattle.rws_wire.specs.Deframing.{HandsOut};
+ghost use Rattle.rws_wire.specs.Due.{number_due};
 ghost use Rattle.rws_wire.specs.Gathering.{IsSpelled};
 
+use crate::due::number_due;
 use crate::gathering::{Look, gather, look_at};
 use crate::{NextError, Payload, WireFault};
 use std::alloc::{AllocError, Global};
@@ -77,6 +79,15 @@ impl Deframer {
         ensures { result ≡ length self.now.held }
     {
         (self.bytes.len() - self.start) as u64
+    }
+
+    /// The number that the next packet is to have behind the whole packets, in order and within the limit, of the payload that
+    /// the held bytes and then `piece` begin with, if its first packet is to have the number `first`; `first` itself where there
+    /// is none. It takes no memory, so it can be asked for where there was none to feed the piece.
+    pub fn number_due(&self, first: u8, piece: &[u8]) -> u8
+        ensures { result ≡ number_due self.now.limit first (self.now.held ++ piece.now) }
+    {
+        number_due(&self.bytes[self.start..], piece, first, self.limit)
     }
 
     /// Takes the next bytes of the stream. `Err` changes nothing.

@@ -5,6 +5,7 @@
 mod close_reason;
 mod deframer;
 mod drop_cause;
+mod due;
 mod fault;
 mod framing;
 mod gathering;
