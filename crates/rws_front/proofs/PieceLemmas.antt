@@ -11,9 +11,9 @@ use Rattle.rws_front.specs.declared.phase.Phase.TheVariants.{Greets, AwaitsRespo
 use Rattle.rws_front.specs.declared.step.FrontStep.{FrontStep}
 use Rattle.rws_front.specs.declared.step.FrontStep.TheVariants.{Idle, Send, LoggedIn, Command, End}
 use Rattle.rws_front.specs.Accesses.{access_of}
-use Rattle.rws_front.specs.Fronting.{Fronting}
+use Rattle.rws_front.specs.Fronting.{Fronting, fed}
 use Rattle.rws_front.specs.Connection.{settled, responded, response_in, fault_number, heard, step_of}
-use Rattle.rws_front.specs.Laws.{fed, IsSame, StepsAreKept}
+use Rattle.rws_front.specs.Laws.{IsSame, StepsAreKept}
 
 same : (step : FrontStep) (new : Fronting) (more : List ℕ) (then : FrontStep × Fronting) → then ≡ (step, fed new more) → IsSame more (step, new) then
 same Idle new more then is = tt

@@ -10,6 +10,7 @@ use Rattle.rws_wire.specs.declared.fault.WireFault.TheVariants.{OutOfOrder, TooL
 use Rattle.rws_wire.specs.Packets.{full_packet, next_number, spelling}
 use Rattle.rws_wire.specs.Payloads.{Beginning, Nothing, Whole, Faulty}
 use Rattle.rws_wire.specs.Deframing.{Deframing, next_of}
+use Rattle.rws_wire.specs.Due.{number_due}
 use Rattle.rws_msgs.specs.declared.capability.TheConstants.{OFFERED_TO_CLIENTS, PROTOCOL_41, SECURE_CONNECTION, SSL}
 use Rattle.rws_msgs.specs.declared.response.Response.{Response}
 use Rattle.rws_msgs.specs.ErrLayout.{err_bytes}
@@ -115,6 +116,24 @@ step_in accounts front (Ended reason) = (End [] reason, front)
 
 abbrev pub step_of : List Account → Fronting → FrontStep × Fronting
 step_of accounts front = step_in accounts front front.phase
+
+-- the number behind the last packet of the client's answer that came, or where none did that of the question
+abbrev pub behind_answer : ℕ → ℕ → ℕ
+behind_answer asked due = if due == next_number asked then asked else due
+
+-- The number of an error that is no reply to the client's bytes, as one for want of memory. Before the login is accepted it is
+-- the number behind the last packet of the client that came whole and in order, or 1 where there is none; with the commands 1.
+abbrev pub error_number_in : Deframing → Phase → ℕ
+error_number_in stream Greets = 1
+error_number_in stream AwaitsResponse = number_due stream.limit 1 stream.held
+error_number_in stream (AwaitsAnswer response asked) =
+    behind_answer asked (number_due stream.limit (next_number asked) stream.held)
+error_number_in stream (LogsIn login) = 1
+error_number_in stream Commands = 1
+error_number_in stream (Ended reason) = 1
+
+abbrev pub error_number : Fronting → ℕ
+error_number front = error_number_in front.stream front.phase
 
 -- bytes begin with a payload or a fault
 abbrev pub IsHeard : Beginning → Type 0

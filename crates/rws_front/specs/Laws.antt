@@ -1,5 +1,5 @@
 -- What all steps of a front have in common.
-use Rattle.std.specs.Prelude.{◌≡◌, ℕ, zero, suc, ◌*◌, ◌<◌, List, [], ◌++◌, length, Contains, Option, Some, None}
+use Rattle.std.specs.Prelude.{◌≡◌, ℕ, zero, suc, ◌*◌, ◌<◌, List, [], length, Contains, Option, Some, None}
 use Rattle.sha1.specs.Sha1.{sha1}
 use Rattle.rws_wire.specs.declared.close_reason.CloseReason.{CloseReason}
 use Rattle.rws_wire.specs.declared.fault.WireFault.{WireFault}
@@ -17,7 +17,7 @@ use Rattle.rws_front.specs.declared.phase.Phase.TheVariants.{Greets, AwaitsRespo
 use Rattle.rws_front.specs.declared.step.FrontStep.{FrontStep}
 use Rattle.rws_front.specs.declared.step.FrontStep.TheVariants.{Idle, Send, LoggedIn, Command, End}
 use Rattle.rws_front.specs.Accesses.{account_of, access_of}
-use Rattle.rws_front.specs.Fronting.{Fronting}
+use Rattle.rws_front.specs.Fronting.{Fronting, fed}
 use Rattle.rws_front.specs.Connection.{fault_number, step_of}
 
 -- ---- the order of steps
@@ -88,9 +88,6 @@ AnswersAreGranted =
     → access_of accounts user scramble (answer_of stage1 scramble) ≡ Granted (Some stage1)
 
 -- ---- pieces
-
-abbrev pub fed : Fronting → List ℕ → Fronting
-fed front more = record front { stream = record front.stream { held = front.stream.held ++ more } }
 
 -- A step and the one in its place when more bytes come: they are the same, and the new bytes are held behind those that were.
 -- Of a front that waits for bytes nothing is said.

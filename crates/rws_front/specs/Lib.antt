@@ -6,5 +6,6 @@ pub mod Accesses
 -- where a front stands, and its next step
 pub mod Fronting
 pub mod Connection
+pub mod Names
 -- laws
 pub mod Laws

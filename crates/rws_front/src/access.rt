@@ -8,7 +8,7 @@ use rws_native::{Stage1, check};
 
 /// What a login's answer gets. It may hold a first stage, so it has no `Debug`.
 #[derive(Clone, Copy)]
-pub(crate) enum Access {
+pub enum Access {
     /// The user has no account, or the answer isn't that of its password.
     Denied,
     /// The login is proved; the first stage of the password, or none where that is empty.

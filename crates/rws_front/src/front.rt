@@ -2,7 +2,8 @@
 ghost use Rattle.std.specs.Prelude.{◌≡◌, ◌++◌, length, [], None, IfOk, OnOk, OnErr};
 ghost use Rattle.rws_wire.specs.Deframing.{next_of};
 ghost use Rattle.rws_wire.specs.Packets.{next_number};
-ghost use Rattle.rws_front.specs.Connection.{fault_number, refused, responded, response_in, settled};
+ghost use Rattle.rws_front.specs.Connection.{behind_answer, fault_number, refused, responded, response_in, settled};
+ghost use Rattle.rws_front.specs.Names.{AreNames, IsNamed, IsNamedPhase, IsNamedResponse};
 ghost use Rattle.rws_front.specs.declared.phase.Phase.TheVariants.{AwaitsAnswer, AwaitsResponse, Commands, Greets};
 
 use crate::access::{Access, access_of};
@@ -37,14 +38,18 @@ pub struct Front {
 
 impl Model for Front {
     ghost use Rattle.rws_front.specs.Fronting.{Fronting};
+    ghost use Rattle.rws_front.specs.Names.{IsNamedPhase};
 
     ghost Value = { Fronting };
 
     ghost view = { λ f. record { session = f.session; scramble = f.scramble; phase = f.phase; stream = f.stream } };
+
+    ghost invariant = { λ f. IsNamedPhase f.phase };
 }
 
 impl Front {
-    ghost use Rattle.rws_front.specs.Connection.{IsHeard, IsSpent, MayWantMemory, commanded, step_in, step_of};
+    ghost use Rattle.rws_front.specs.Connection.{IsHeard, IsSpent, MayWantMemory, commanded, error_number, step_in, step_of};
+    ghost use Rattle.rws_front.specs.Fronting.{fed};
 
     /// A front that is to greet its client. The scramble is the connection's own, 20 bytes that nobody can foresee. This
     /// takes no memory.
@@ -83,10 +88,25 @@ impl Front {
 
     /// Takes the next bytes of the client. `Err` changes nothing.
     pub fn feed(&mut self, piece: &[u8]) -> Result<(), AllocError>
-        ensures ok { OnOk result (self.new ≡ record self.old { stream = record self.old.stream { held = self.old.stream.held ++ piece.now } }) }
+        ensures ok { OnOk result (self.new ≡ fed self.old piece.now) }
         ensures err { OnErr result (self.new ≡ self.old) }
     {
         self.stream.feed(piece)
+    }
+
+    /// The number of an error that is no reply to the client's bytes, where `piece` came behind those that were fed. Ask for it
+    /// before [`Front::next`]: a front that had no memory has ended, and then it is 1. This takes no memory.
+    pub fn error_number(&self, piece: &[u8]) -> u8
+        ensures { result ≡ error_number (fed self.now piece.now) }
+    {
+        match &self.phase {
+            Phase::AwaitsResponse => self.stream.number_due(1, piece),
+            Phase::AwaitsAnswer { asked, .. } => {
+                let due = self.stream.number_due(asked.wrapping_add(1), piece);
+                behind_answer(*asked, due)
+            }
+            Phase::Greets | Phase::LogsIn(_) | Phase::Commands | Phase::Ended(_) => 1,
+        }
     }
 
     /// The next step. `Err` is want of memory: the front has then ended for this reason, so that no login is left half done.
@@ -94,6 +114,9 @@ impl Front {
         ensures ok { IfOk result (λ step. (step, self.new) ≡ step_of config.now.accounts self.old) }
         ensures err { OnErr result (IsSpent self.old self.new) }
         ensures memory { OnErr result (MayWantMemory self.old.stream self.old.phase) }
+
+        // The names of a login that is handed out have no zero byte.
+        ensures named { IfOk result IsNamed }
     {
         let phase = mem::replace(&mut self.phase, Phase::Ended(CloseReason::Memory));
         let (step, phase) = self.step_in(phase, config.accounts.as_slice())?;
@@ -107,9 +130,11 @@ impl Front {
         phase: Phase,
         accounts: &[Account],
     ) -> Result<(FrontStep, Phase), AllocError>
+        requires named { IsNamedPhase phase }
         ensures ok { IfOk result (λ x. (x.0, record self.new { phase = x.1 }) ≡ step_in accounts.now (record self.old { phase = phase }) phase) }
         ensures err { OnErr result (self.new ≡ record self.old { stream = self.new.stream }) }
         ensures memory { OnErr result (MayWantMemory self.old.stream phase) }
+        ensures named { IfOk result (λ x. IsNamed x.0 × IsNamedPhase x.1) }
     {
         match phase {
             Phase::Greets => {
@@ -132,6 +157,7 @@ impl Front {
         ensures ok { IfOk result (λ x. (x.0, record self.new { phase = x.1 }) ≡ step_in accounts.now (record self.old { phase = AwaitsResponse }) AwaitsResponse) }
         ensures err { OnErr result (self.new ≡ record self.old { stream = self.new.stream }) }
         ensures memory { OnErr result (IsHeard (next_of self.old.stream 1)) }
+        ensures named { IfOk result (λ x. IsNamed x.0 × IsNamedPhase x.1) }
     {
         match self.stream.next_payload(1) {
             Ok(Some(payload)) => {
@@ -154,9 +180,11 @@ impl Front {
         response: Response,
         asked: u8,
     ) -> Result<(FrontStep, Phase), AllocError>
+        requires named { AreNames response.user response.database }
         ensures ok { IfOk result (λ x. (x.0, record self.new { phase = x.1 }) ≡ step_in accounts.now (record self.old { phase = AwaitsAnswer response asked }) (AwaitsAnswer response asked)) }
         ensures err { OnErr result (self.new ≡ record self.old { stream = self.new.stream }) }
         ensures memory { OnErr result (IsHeard (next_of self.old.stream (next_number asked))) }
+        ensures named { IfOk result (λ x. IsNamed x.0 × IsNamedPhase x.1) }
     {
         let due = asked.wrapping_add(1);
         match self.stream.next_payload(due) {
@@ -179,6 +207,7 @@ impl Front {
         ensures ok { IfOk result (λ x. (x.0, record self.new { phase = x.1 }) ≡ commanded (record self.old { phase = Commands })) }
         ensures err { OnErr result (self.new ≡ record self.old { stream = self.new.stream }) }
         ensures memory { OnErr result (IsHeard (next_of self.old.stream 0)) }
+        ensures named { IfOk result (λ x. IsNamed x.0 × IsNamedPhase x.1) }
     {
         match self.stream.next_payload(0) {
             Ok(Some(payload)) => Ok((FrontStep::Command(payload), Phase::Commands)),
@@ -208,9 +237,21 @@ fn fault_number(behind: u8, due: u8, fault: WireFault) -> u8
     }
 }
 
+/// The number behind the last packet of the client's answer that came, by the one that is due, or that of the question.
+fn behind_answer(asked: u8, due: u8) -> u8
+    ensures { result ≡ behind_answer asked due }
+{
+    if due == asked.wrapping_add(1) {
+        asked
+    } else {
+        due
+    }
+}
+
 /// The error in a packet of this number, and then nothing more.
 fn refused(alloc: Global, refusal: Refusal, number: u8) -> Result<(FrontStep, Phase), AllocError>
-    ensures { IfOk result (λ x. x ≡ refused refusal number) }
+    ensures ends { IfOk result (λ x. x ≡ refused refusal number) }
+    ensures named { IfOk result (λ x. IsNamed x.0 × IsNamedPhase x.1) }
 {
     let reason = refusal.reason();
     let bytes = error(alloc, refusal, number)?;
@@ -224,7 +265,9 @@ fn settled(
     response: Response,
     number: u8,
 ) -> Result<(FrontStep, Phase), AllocError>
-    ensures { IfOk result (λ x. x ≡ settled access response number) }
+    requires named { AreNames response.user response.database }
+    ensures settles { IfOk result (λ x. x ≡ settled access response number) }
+    ensures named { IfOk result (λ x. IsNamed x.0 × IsNamedPhase x.1) }
 {
     let Access::Granted(stage1) = access else {
         return refused(alloc, Refusal::AccessDenied, number);
@@ -248,7 +291,9 @@ fn responded(
     response: Option<Response>,
     number: u8,
 ) -> Result<(FrontStep, Phase), AllocError>
-    ensures { IfOk result (λ x. x ≡ responded accounts.now scramble.now response number) }
+    requires named { IsNamedResponse response }
+    ensures responds { IfOk result (λ x. x ≡ responded accounts.now scramble.now response number) }
+    ensures named { IfOk result (λ x. IsNamed x.0 × IsNamedPhase x.1) }
 {
     let Some(response) = response else {
         return refused(alloc, Refusal::BadHandshake, number);

@@ -12,6 +12,7 @@ mod refusal;
 mod response;
 mod step;
 
+pub use access::Access;
 pub use front::Front;
 pub use law::{
     answers_are_granted, errors_are_numbered, logins_are_proved, pieces_change_nothing,

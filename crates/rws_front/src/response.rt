@@ -1,6 +1,7 @@
 //! The client's response to the greeting (Handshake Response Packet), as far as it is read before its answer is looked at.
 ghost use Rattle.std.specs.Prelude.{◌≡◌, IfOk};
 ghost use Rattle.rws_front.specs.Connection.{is_native, is_spoken, response_in};
+ghost use Rattle.rws_front.specs.Names.{IsNamedResponse};
 
 use crate::messages::NATIVE_PLUGIN;
 use rws_msgs::capability::{PROTOCOL_41, SECURE_CONNECTION, SSL};
@@ -18,7 +19,8 @@ fn is_spoken(flags: u32) -> bool
 
 /// The response that the payload is, if it is one that can be taken up.
 pub(crate) fn response_in(alloc: Global, payload: &[u8]) -> Result<Option<Response>, AllocError>
-    ensures { IfOk result (λ response. response ≡ response_in payload.now) }
+    ensures reads { IfOk result (λ response. response ≡ response_in payload.now) }
+    ensures named { IfOk result IsNamedResponse }
 {
     match Response::decode(alloc, payload) {
         Ok(response) if is_spoken(response.flags) => Ok(Some(response)),

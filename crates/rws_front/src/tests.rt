@@ -24,6 +24,10 @@ struct Row {
     closed: Option<CloseReason>,
 }
 
+/// A client that names another plugin, and its empty answer to the question. The response takes 47 bytes with its header.
+const ASKED_CLIENT: &[u8] =
+    b"+\x00\x00\x01\x01\xa2\x08\x00\x00\x00\x00\x01-\x00\x00\x00\x00\x00\x00\x00\x00\x00\x00\x00\x00\x00\x00\x00\x00\x00\x00\x00\x00\x00\x00\x00app\x00\x00other\x00\x00\x00\x00\x03";
+
 /// One connection a row. The limit on a payload is 1 MiB.
 const ROWS: [Row; 22] = [
     // The account without a password.
@@ -98,7 +102,7 @@ const ROWS: [Row; 22] = [
     },
     // Another plugin.
     Row {
-        client: b"+\x00\x00\x01\x01\xa2\x08\x00\x00\x00\x00\x01-\x00\x00\x00\x00\x00\x00\x00\x00\x00\x00\x00\x00\x00\x00\x00\x00\x00\x00\x00\x00\x00\x00\x00app\x00\x00other\x00\x00\x00\x00\x03",
+        client: ASKED_CLIENT,
         front: b",\x00\x00\x02\xfemysql_native_password\x00ABCDEFGHIJKLMNOPQRST\x00\x07\x00\x00\x04\x00\x00\x00\x02\x00\x00\x00",
         logs_in: true,
         closed: None,
@@ -342,5 +346,48 @@ fn ready(rt: HostRuntime) -> Result<(), Fail> {
     assert!(rt; matches!(front.next(&config)?, FrontStep::Command(_)));
     assert!(rt; matches!(front.next(&config)?, FrontStep::Idle));
     assert_eq!(rt; front.held(), 1);
+    Ok(())
+}
+
+/// The number of an error behind these bytes, which are fed, and so many steps, where the piece isn't fed.
+fn number_behind(
+    alloc: Global,
+    client: &[u8],
+    steps: usize,
+    piece: &[u8],
+) -> Result<u8, AllocError> {
+    let config = built_in(alloc)?;
+    let mut front = Front::new(alloc, 2, SCRAMBLE, &config);
+    front.feed(client)?;
+    for _ in 0..steps {
+        front.next(&config)?;
+    }
+    Ok(front.error_number(piece))
+}
+
+/// Where memory is wanting for a reply, before its step, or for the bytes that came: the greeting, the response at each cut,
+/// the answer at each cut, the login and the commands.
+#[test]
+fn error_numbers(rt: HostRuntime) -> Result<(), Fail> {
+    let (response, answer) = ASKED_CLIENT.split_at(47);
+    for cut in 0..=response.len() {
+        let number = if cut < response.len() { 1 } else { 2 };
+        let (fed, piece) = (&response[..cut], &response[cut..]);
+        assert_eq!(rt; number_behind(rt.alloc(), fed, 1, &[])?, number);
+        assert_eq!(rt; number_behind(rt.alloc(), fed, 1, piece)?, 2);
+    }
+    for cut in 0..=answer.len() {
+        let number = if cut < answer.len() { 2 } else { 4 };
+        assert_eq!(rt;
+            number_behind(rt.alloc(), response, 2, &answer[..cut])?,
+            number
+        );
+    }
+    for (steps, number) in [(0, 1), (1, 2), (2, 4), (3, 1), (4, 1), (5, 1)] {
+        assert_eq!(rt;
+            number_behind(rt.alloc(), ASKED_CLIENT, steps, &[])?,
+            number
+        );
+    }
     Ok(())
 }
