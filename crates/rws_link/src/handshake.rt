@@ -30,9 +30,9 @@ pub(crate) enum Handshake {
     Answered { stage1: Option<Stage1>, next: u8 },
 }
 
-/// What a payload of the server leads to.
+/// What a payload of the server leads to, in a login. Laws about links speak of it; a [`Link`](crate::Link) answers steps.
 #[derive(Drop)]
-pub(crate) enum Reaction {
+pub enum Reaction {
     /// These packets answer it. The server's word on them has the number `next`.
     Answers {
         bytes: Text,

@@ -8,6 +8,7 @@ mod link;
 mod phase;
 mod step;
 
+pub use handshake::Reaction;
 pub use law::{later_bytes_change_nothing, logins_are_read, pieces_are_joined};
 pub use link::Link;
 pub use step::{LinkCause, LinkStep};

@@ -71,7 +71,7 @@ impl Link {
     }
 
     /// The greeting is awaited, and no byte of it came.
-    fn is_new(&self) -> bool
+    pub fn is_new(&self) -> bool
         ensures { (link : LinkState) → self.now ≡ kept link → result ≡ is_new link }
     {
         match &self.phase {
