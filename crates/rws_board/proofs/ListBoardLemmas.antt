@@ -6,7 +6,7 @@ use Rattle.rws_board.specs.Boards.Standing.{NextFailed, ActFailed}
 use Rattle.rws_board.specs.declared.action.Action.{Action}
 use Rattle.rws_board.specs.declared.board_fault.BoardFault.{BoardFault}
 use Rattle.rws_board.specs.declared.event.Event.{Event}
-use Rattle.rws_board.specs.declared.event.Event.TheVariants.{Begin, ClientBytes, ClientGone, LinkBytes, LinkGone, End}
+use Rattle.rws_board.specs.declared.event.Event.TheVariants.{Accept, Begin, ClientBytes, ClientGone, LinkReady, LinkBytes, LinkGone, End}
 use Rattle.rws_board.specs.declared.interaction.Interaction.TheVariants.{Gave, Took}
 
 -- an error of which it is known which one it is
@@ -27,8 +27,10 @@ not_taken old new action fault same = ([], inr (record { action = action; parted
 
 pub gave : (old new : ListBoardState) (event : Event) → event ≢ End → old.ahead ≡ event ∷ new.ahead → new.done ≡ old.done ++ Gave event ∷ [] → ListDid old new (given event) (standing_after event)
 gave old new End apart ahead done = absurd (apart refl)
+gave old new (Accept session scramble) apart ahead done = (done, ahead)
 gave old new (Begin session server) apart ahead done = (done, ahead)
 gave old new (ClientBytes session bytes) apart ahead done = (done, ahead)
 gave old new (ClientGone session) apart ahead done = (done, ahead)
+gave old new (LinkReady link) apart ahead done = (done, ahead)
 gave old new (LinkBytes link bytes) apart ahead done = (done, ahead)
 gave old new (LinkGone link) apart ahead done = (done, ahead)

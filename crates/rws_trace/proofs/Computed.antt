@@ -1,13 +1,13 @@
 -- Lines, scripts and printed lines, computed.
-use Rattle.std.proofs.Common.{◌≡◌, [], ◌∷◌, ◌++◌, Some, None, true, false, codes, refl}
+use Rattle.std.proofs.Common.{◌≡◌, ℕ, List, [], ◌∷◌, ◌++◌, Some, None, true, false, codes, refl}
 use Rattle.hex.proofs.OnLiterals.{hex_on_literals}
 use Rattle.std.specs.Fmt.{digits}
 use Rattle.rws_trace.specs.Lines.{lines_of}
 use Rattle.rws_trace.specs.EventLine.{meaning_of}
 use Rattle.rws_trace.specs.Script.{script_of, ended, told_before, script_from}
 use Rattle.rws_trace.specs.Printing.{action_text, end_line, bad_line}
-use Rattle.rws_board.specs.declared.action.Action.TheVariants.{ToClient, Drop, Close}
-use Rattle.rws_board.specs.declared.event.Event.TheVariants.{Begin, ClientBytes, ClientGone, LinkBytes, LinkGone}
+use Rattle.rws_board.specs.declared.action.Action.TheVariants.{Open, ToClient, Drop, Close}
+use Rattle.rws_board.specs.declared.event.Event.TheVariants.{Accept, Begin, ClientBytes, ClientGone, LinkReady, LinkBytes, LinkGone}
 use Rattle.rws_trace.specs.declared.event_line.EventLine.TheVariants.{Silent, Says, Bad}
 use Rattle.rws_trace.specs.declared.settings.TraceSettings.{TraceSettings}
 use Rattle.rws_wire.specs.declared.close_reason.CloseReason.TheVariants.{Mismatch}
@@ -16,6 +16,10 @@ use Rattle.rws_wire.specs.declared.drop_cause.DropCause.TheVariants.{Login}
 -- three servers, and an account without a password
 abbrev three : TraceSettings
 three = record { servers = 3; plain = true }
+
+-- a scramble
+abbrev scramble : List ℕ
+scramble = 65 ∷ 66 ∷ 67 ∷ 68 ∷ 69 ∷ 70 ∷ 71 ∷ 72 ∷ 73 ∷ 74 ∷ 75 ∷ 76 ∷ 77 ∷ 78 ∷ 79 ∷ 80 ∷ 81 ∷ 82 ∷ 83 ∷ 255 ∷ []
 
 -- an empty line is a line, and behind the last line feed there is none
 lines-middle : lines_of (codes "ab\n\nc") ≡ codes "ab" ∷ [] ∷ codes "c" ∷ []
@@ -27,12 +31,24 @@ lines-end = refl
 lines-feed : lines_of (codes "\n") ≡ [] ∷ []
 lines-feed = refl
 
+says-accept : meaning_of three (codes "accept 4294967295 4142434445464748494a4B4c4D4e4f50515253fF") ≡ Says (Accept 4294967295 scramble)
+unfolding hex_on_literals
+says-accept = refl
+
+-- one that needs no account without a password
+says-accept-password : meaning_of (record { servers = 3; plain = false }) (codes "accept 1 4142434445464748494a4B4c4D4e4f50515253fF") ≡ Says (Accept 1 scramble)
+unfolding hex_on_literals
+says-accept-password = refl
+
 says-begin : meaning_of three (codes "begin 4294967295 2") ≡ Says (Begin 4294967295 2)
 says-begin = refl
 
 says-client : meaning_of three (codes "client 7 0aFf") ≡ Says (ClientBytes 7 (10 ∷ 255 ∷ []))
 unfolding hex_on_literals
 says-client = refl
+
+says-ready : meaning_of three (codes "ready 18446744073709551615") ≡ Says (LinkReady 18446744073709551615)
+says-ready = refl
 
 says-link : meaning_of three (codes "link 18446744073709551615 00") ≡ Says (LinkBytes 18446744073709551615 (0 ∷ []))
 unfolding hex_on_literals
@@ -52,6 +68,37 @@ bad-number = refl
 
 bad-zero : meaning_of three (codes "gone 0") ≡ Bad
 bad-zero = refl
+
+bad-accept-38 : meaning_of three (codes "accept 1 4142434445464748494a4B4c4D4e4f50515253") ≡ Bad
+unfolding hex_on_literals
+bad-accept-38 = refl
+
+bad-accept-39 : meaning_of three (codes "accept 1 4142434445464748494a4B4c4D4e4f50515253f") ≡ Bad
+unfolding hex_on_literals
+bad-accept-39 = refl
+
+bad-accept-41 : meaning_of three (codes "accept 1 4142434445464748494a4B4c4D4e4f50515253fF0") ≡ Bad
+unfolding hex_on_literals
+bad-accept-41 = refl
+
+bad-accept-42 : meaning_of three (codes "accept 1 4142434445464748494a4B4c4D4e4f50515253fF01") ≡ Bad
+unfolding hex_on_literals
+bad-accept-42 = refl
+
+-- a zero byte, and none where two zeros stand in two bytes
+bad-accept-zero : meaning_of three (codes "accept 1 4142434445464748494a004c4D4e4f50515253fF") ≡ Bad
+unfolding hex_on_literals
+bad-accept-zero = refl
+
+says-accept-zeros : meaning_of three (codes "accept 1 1001434445464748494a4B4c4D4e4f50515253fF") ≡ Says (Accept 1 (16 ∷ 1 ∷ 67 ∷ 68 ∷ 69 ∷ 70 ∷ 71 ∷ 72 ∷ 73 ∷ 74 ∷ 75 ∷ 76 ∷ 77 ∷ 78 ∷ 79 ∷ 80 ∷ 81 ∷ 82 ∷ 83 ∷ 255 ∷ []))
+unfolding hex_on_literals
+says-accept-zeros = refl
+
+bad-ready : meaning_of three (codes "ready 0") ≡ Bad
+bad-ready = refl
+
+bad-ready-zero : meaning_of three (codes "ready 01") ≡ Bad
+bad-ready-zero = refl
 
 bad-server : meaning_of three (codes "begin 1 3") ≡ Bad
 bad-server = refl
@@ -98,12 +145,25 @@ script-jump = refl
 script-order : script_of three (codes "begin 2 0\nbegin 4 0\ngone 2\nbegin 4 0") ≡ told_before (Begin 2 0) (told_before (Begin 4 0) (told_before (ClientGone 2) (ended (Some 4))))
 script-order = refl
 
+-- an accepted session is one of them
+script-accept : script_of three (codes "accept 2 4142434445464748494a4B4c4D4e4f50515253fF\nbegin 4 0\nready 1\naccept 4 4142434445464748494a4B4c4D4e4f50515253fF") ≡ told_before (Accept 2 scramble) (told_before (Begin 4 0) (told_before (LinkReady 1) (ended (Some 4))))
+unfolding hex_on_literals
+script-accept = refl
+
+script-accepted : script_of three (codes "accept 2 4142434445464748494a4B4c4D4e4f50515253fF\nbegin 2 0") ≡ told_before (Accept 2 scramble) (ended (Some 2))
+unfolding hex_on_literals
+script-accepted = refl
+
 script-empty : script_of three [] ≡ ended None
 script-empty = refl
 
 -- the last line that is counted
 script-last : script_from three 8589934591 0 (codes "gone 1" ∷ codes "" ∷ []) ≡ told_before (ClientGone 1) (ended (Some 8589934592))
 script-last = refl
+
+printed-open : action_text (Open 18446744073709551615 6 4294967295) ≡ codes "open 18446744073709551615 6 4294967295\n"
+unfolding digits
+printed-open = refl
 
 printed-client : action_text (ToClient 1 (10 ∷ 255 ∷ [])) ≡ codes "client 1 0aff\n"
 unfolding hex_on_literals digits

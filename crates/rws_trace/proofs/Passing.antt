@@ -2,11 +2,11 @@
 use Rattle.std.proofs.Common.{◌≡◌, ◌≢◌, ℕ, ◌+◌, ◌≤◌, Bool, true, false, cond, List, [], ◌∷◌, length, Option, Some, None, option_map, refl, sym, ◌∙◌, ap, codes, bytes_eq, arith}
 use Rattle.std.specs.Bool.{⊤}
 use Rattle.std.proofs.lemmas.Bool.Decides.{nat_tests}
-use Rattle.rws_trace.specs.EventLine.{meaning_of, said_or_bad, event_of, event_of_two, event_of_three, words_of, with_both, session_of, link_of, server_of, bytes_of, begin_of}
+use Rattle.rws_trace.specs.EventLine.{meaning_of, said_or_bad, event_of, event_of_two, event_of_three, words_of, with_both, session_of, link_of, server_of, bytes_of, scramble_of, begin_of}
 use Rattle.rws_trace.specs.Reader.{IsNext, script_at, count_of}
 use Rattle.rws_trace.specs.Script.{Script, told_before, in_order, meaning_at, begun_after}
 use Rattle.rws_board.specs.declared.event.Event.{Event}
-use Rattle.rws_board.specs.declared.event.Event.TheVariants.{Begin, ClientBytes, ClientGone, LinkBytes, LinkGone, End}
+use Rattle.rws_board.specs.declared.event.Event.TheVariants.{Accept, Begin, ClientBytes, ClientGone, LinkReady, LinkBytes, LinkGone, End}
 use Rattle.rws_trace.specs.declared.event_line.EventLine.{EventLine}
 use Rattle.rws_trace.specs.declared.event_line.EventLine.TheVariants.{Silent, Says, Bad}
 use Rattle.rws_trace.specs.declared.event_line.TheConstants.{MAX_LINE, LAST_LINE}
@@ -35,7 +35,8 @@ NotEnd-both f not None None = tt
 NotEnd-two : (keyword number : List ℕ) → NotEnd (event_of_two keyword number)
 NotEnd-two keyword number =
     NotEnd-cond (bytes_eq keyword (codes "gone")) _ _ (NotEnd-map ClientGone (λ a e. cc) (session_of number))
-    (NotEnd-cond (bytes_eq keyword (codes "lost")) _ _ (NotEnd-map LinkGone (λ a e. cc) (link_of number)) tt)
+    (NotEnd-cond (bytes_eq keyword (codes "ready")) _ _ (NotEnd-map LinkReady (λ a e. cc) (link_of number))
+    (NotEnd-cond (bytes_eq keyword (codes "lost")) _ _ (NotEnd-map LinkGone (λ a e. cc) (link_of number)) tt))
 
 NotEnd-begin : (settings : TraceSettings) (number word : List ℕ) → NotEnd (begin_of settings number word)
 NotEnd-begin settings number word =
@@ -43,9 +44,10 @@ NotEnd-begin settings number word =
 
 NotEnd-three : (settings : TraceSettings) (keyword number word : List ℕ) → NotEnd (event_of_three settings keyword number word)
 NotEnd-three settings keyword number word =
-    NotEnd-cond (bytes_eq keyword (codes "begin")) _ _ (NotEnd-begin settings number word)
+    NotEnd-cond (bytes_eq keyword (codes "accept")) _ _ (NotEnd-both Accept (λ a b e. cc) (session_of number) (scramble_of word))
+    (NotEnd-cond (bytes_eq keyword (codes "begin")) _ _ (NotEnd-begin settings number word)
     (NotEnd-cond (bytes_eq keyword (codes "client")) _ _ (NotEnd-both ClientBytes (λ a b e. cc) (session_of number) (bytes_of word))
-    (NotEnd-cond (bytes_eq keyword (codes "link")) _ _ (NotEnd-both LinkBytes (λ a b e. cc) (link_of number) (bytes_of word)) tt))
+    (NotEnd-cond (bytes_eq keyword (codes "link")) _ _ (NotEnd-both LinkBytes (λ a b e. cc) (link_of number) (bytes_of word)) tt)))
 
 NotEnd-event : (settings : TraceSettings) (words : List (List ℕ)) → NotEnd (event_of settings words)
 NotEnd-event settings [] = tt
@@ -70,10 +72,13 @@ meaning-not_end settings (byte ∷ line) =
 in_order-not_end : (begun : ℕ) (meaning : EventLine) → meaning ≢ Says End → in_order begun meaning ≢ Says End
 in_order-not_end begun Silent not = not
 in_order-not_end begun Bad not = not
+in_order-not_end begun (Says (Accept session scramble)) not =
+    cond-not_end _ (Says (Accept session scramble)) Bad not (λ e. cc)
 in_order-not_end begun (Says (Begin session server)) not =
     cond-not_end _ (Says (Begin session server)) Bad not (λ e. cc)
 in_order-not_end begun (Says (ClientBytes session bytes)) not = not
 in_order-not_end begun (Says (ClientGone session)) not = not
+in_order-not_end begun (Says (LinkReady link)) not = not
 in_order-not_end begun (Says (LinkBytes link bytes)) not = not
 in_order-not_end begun (Says (LinkGone link)) not = not
 in_order-not_end begun (Says End) not = not
@@ -84,17 +89,21 @@ event-not_end settings begun line event says end =
 
 -- an event that isn't the end comes next where the script says it
 pub next-event : (event : Event) (bad : Option ℕ) (before behind : Script) → event ≢ End → before ≡ told_before event behind → bad ≡ None → IsNext event bad before behind
+next-event (Accept session scramble) bad before behind not told none = (told, none)
 next-event (Begin session server) bad before behind not told none = (told, none)
 next-event (ClientBytes session bytes) bad before behind not told none = (told, none)
 next-event (ClientGone session) bad before behind not told none = (told, none)
+next-event (LinkReady link) bad before behind not told none = (told, none)
 next-event (LinkBytes link bytes) bad before behind not told none = (told, none)
 next-event (LinkGone link) bad before behind not told none = (told, none)
 next-event End bad before behind not told none = absurd (not refl)
 
 pub count-event : (event : Event) → event ≢ End → count_of event ≡ 1
+count-event (Accept session scramble) not = refl
 count-event (Begin session server) not = refl
 count-event (ClientBytes session bytes) not = refl
 count-event (ClientGone session) not = refl
+count-event (LinkReady link) not = refl
 count-event (LinkBytes link bytes) not = refl
 count-event (LinkGone link) not = refl
 count-event End not = absurd (not refl)

@@ -1,7 +1,7 @@
 -- How reading goes on from call to call.
 use Rattle.std.proofs.Common.{◌≡◌, ℕ, ◌++◌, List, [], ◌∷◌, Option, Some, None, Result, Ok, Err, IfOk, inl, inr, refl, sym, ◌∙◌, ap, subst, append_assoc}
 use Rattle.rws_board.specs.declared.event.Event.{Event}
-use Rattle.rws_board.specs.declared.event.Event.TheVariants.{Begin, ClientBytes, ClientGone, LinkBytes, LinkGone, End}
+use Rattle.rws_board.specs.declared.event.Event.TheVariants.{Accept, Begin, ClientBytes, ClientGone, LinkReady, LinkBytes, LinkGone, End}
 use Rattle.rws_trace.specs.Lines.{lines_of, Begins, IsFeedless}
 use Rattle.rws_trace.specs.Lines.Begins.{fed, last}
 use Rattle.rws_trace.specs.Reader.{Ahead, IsFound, IsNext, IsNextIf, Reads, ReadsOut, ReadsPart, Tells, TellsIf, script_at}
@@ -81,18 +81,22 @@ pub tells-line : (told : Option Event) (old new : Place) (line before rest : Lis
 tells-line None old new line before rest first says = (reads-line old new [] line before rest first (λ lines. (says lines).0), (says []).1)
 tells-line (Some End) old new line before rest first says =
     (ap (script_at old) (begins-lines line before rest first) ∙ (says (lines_of rest)).0, (says (lines_of rest)).1)
+tells-line (Some (Accept session scramble)) old new line before rest first says = (reads-line old new (Accept session scramble ∷ []) line before rest first (λ lines. (says lines).0), (says []).1)
 tells-line (Some (Begin session server)) old new line before rest first says = (reads-line old new (Begin session server ∷ []) line before rest first (λ lines. (says lines).0), (says []).1)
 tells-line (Some (ClientBytes session bytes)) old new line before rest first says = (reads-line old new (ClientBytes session bytes ∷ []) line before rest first (λ lines. (says lines).0), (says []).1)
 tells-line (Some (ClientGone session)) old new line before rest first says = (reads-line old new (ClientGone session ∷ []) line before rest first (λ lines. (says lines).0), (says []).1)
+tells-line (Some (LinkReady link)) old new line before rest first says = (reads-line old new (LinkReady link ∷ []) line before rest first (λ lines. (says lines).0), (says []).1)
 tells-line (Some (LinkBytes link bytes)) old new line before rest first says = (reads-line old new (LinkBytes link bytes ∷ []) line before rest first (λ lines. (says lines).0), (says []).1)
 tells-line (Some (LinkGone link)) old new line before rest first says = (reads-line old new (LinkGone link ∷ []) line before rest first (λ lines. (says lines).0), (says []).1)
 
 -- lines that say nothing, and then an event or the end
 tells-then : (event : Event) (a b c : Place) (before middle rest : List ℕ) → Reads a b [] before middle → Tells event b c middle rest → Tells event a c before rest
 tells-then End a b c before middle rest reads tells = (reads-script a b [] before middle reads ∙ tells.0, tells.1)
+tells-then (Accept session scramble) a b c before middle rest reads tells = (reads-then a b c [] (Accept session scramble ∷ []) before middle rest reads tells.0, tells.1)
 tells-then (Begin session server) a b c before middle rest reads tells = (reads-then a b c [] (Begin session server ∷ []) before middle rest reads tells.0, tells.1)
 tells-then (ClientBytes session bytes) a b c before middle rest reads tells = (reads-then a b c [] (ClientBytes session bytes ∷ []) before middle rest reads tells.0, tells.1)
 tells-then (ClientGone session) a b c before middle rest reads tells = (reads-then a b c [] (ClientGone session ∷ []) before middle rest reads tells.0, tells.1)
+tells-then (LinkReady link) a b c before middle rest reads tells = (reads-then a b c [] (LinkReady link ∷ []) before middle rest reads tells.0, tells.1)
 tells-then (LinkBytes link bytes) a b c before middle rest reads tells = (reads-then a b c [] (LinkBytes link bytes ∷ []) before middle rest reads tells.0, tells.1)
 tells-then (LinkGone link) a b c before middle rest reads tells = (reads-then a b c [] (LinkGone link ∷ []) before middle rest reads tells.0, tells.1)
 
@@ -139,9 +143,11 @@ passes-line (Err e) found old new line is says = tt
 pub tells-next : (event : Event) (old new : Place) (before rest : List ℕ) → Tells event old new before rest
     → IsNext event new.bad_line (script_at old (lines_of before)) (script_at new (lines_of rest))
 tells-next End old new before rest tells = tells
+tells-next (Accept session scramble) old new before rest tells = (reads-script old new (Accept session scramble ∷ []) before rest tells.0, tells.1)
 tells-next (Begin session server) old new before rest tells = (reads-script old new (Begin session server ∷ []) before rest tells.0, tells.1)
 tells-next (ClientBytes session bytes) old new before rest tells = (reads-script old new (ClientBytes session bytes ∷ []) before rest tells.0, tells.1)
 tells-next (ClientGone session) old new before rest tells = (reads-script old new (ClientGone session ∷ []) before rest tells.0, tells.1)
+tells-next (LinkReady link) old new before rest tells = (reads-script old new (LinkReady link ∷ []) before rest tells.0, tells.1)
 tells-next (LinkBytes link bytes) old new before rest tells = (reads-script old new (LinkBytes link bytes ∷ []) before rest tells.0, tells.1)
 tells-next (LinkGone link) old new before rest tells = (reads-script old new (LinkGone link ∷ []) before rest tells.0, tells.1)
 

@@ -19,9 +19,7 @@ use Rattle.rws_trace.specs.Script.{all_before}
 use Rattle.rws_trace.specs.ScriptBoards.{ScriptBoardState, AheadOf, FirstEvents, Counts, Goes, Ends, InputFails, IsCutShort, ScriptDid, StandsSo}
 use Rattle.rws_trace.specs.ScriptState.{Did}
 use Rattle.rws_trace.specs.declared.script_board.ScriptBoard.{ScriptBoard}
-use Rattle.rws_trace.specs.declared.side.Side.{Side}
 use Rattle.rws_trace.specs.declared.script_board.ScriptBoard.{ScriptBoard}
-use Rattle.rws_trace.specs.declared.side.Side.TheVariants.{Input, Output}
 use Rattle.rws_trace.proofs.AheadLemmas.{ahead-then}
 use Rattle.rws_trace.proofs.ReadsLemmas.{reads-then, reads_part-then, reads_out-then, reads-script, all_before-then}
 use Rattle.rws_trace.proofs.Texts.{text_of-append, front-behind}

@@ -9,7 +9,7 @@ use Rattle.rws_board.specs.Put.{AppendsFront}
 use Rattle.rws_board.specs.declared.action.Action.{Action}
 use Rattle.rws_board.specs.declared.board_fault.BoardFault.TheVariants as faults
 use Rattle.rws_board.specs.declared.event.Event.{Event}
-use Rattle.rws_board.specs.declared.event.Event.TheVariants.{Begin, ClientBytes, ClientGone, LinkBytes, LinkGone, End}
+use Rattle.rws_board.specs.declared.event.Event.TheVariants.{Accept, Begin, ClientBytes, ClientGone, LinkReady, LinkBytes, LinkGone, End}
 use Rattle.rws_board.specs.declared.interaction.Interaction.TheVariants.{Gave, Took}
 use Rattle.rws_trace.specs.Counting.{PassesOver}
 use Rattle.rws_trace.specs.Lines.{lines_of}
@@ -55,9 +55,11 @@ module _ (reader reader' : ReaderState) (left left' taken : Option (List ℕ)) (
     counts = record { input = rises; output = omega arith; events = counted };
     stands = record { read = tells; end = end refl; printed = Appends-nil taken };
   }
+  gave (Accept session scramble) side tells counted end = one_event (Accept session scramble) side (λ x y t. t.0) tells counted
   gave (Begin session server) side tells counted end = one_event (Begin session server) side (λ x y t. t.0) tells counted
   gave (ClientBytes session bytes) side tells counted end = one_event (ClientBytes session bytes) side (λ x y t. t.0) tells counted
   gave (ClientGone session) side tells counted end = one_event (ClientGone session) side (λ x y t. t.0) tells counted
+  gave (LinkReady link) side tells counted end = one_event (LinkReady link) side (λ x y t. t.0) tells counted
   gave (LinkBytes link bytes) side tells counted end = one_event (LinkBytes link bytes) side (λ x y t. t.0) tells counted
   gave (LinkGone link) side tells counted end = one_event (LinkGone link) side (λ x y t. t.0) tells counted
 

@@ -1,19 +1,22 @@
 -- What one line of a trace says. Its words are parted by one space each, and the first is its keyword:
+--     accept SESSION SCRAMBLE
 --     begin SESSION SERVER
 --     client SESSION HEX
 --     gone SESSION
+--     ready LINK
 --     link LINK HEX
 --     lost LINK
 -- A number is decimal digits without a leading zero, SERVER is an index of the settings' servers, and HEX is two or
--- more hex digits, an even number of them. Where the settings' first account has a password no session may begin.
+-- more hex digits, an even number of them. SCRAMBLE is HEX of twenty bytes, none of them zero. Where the settings' first
+-- account has a password no session may begin by a `begin` line.
 use Rattle.std.specs.Prelude.{ℕ, ◌-◌, ◌^◌, ◌==◌, ◌&&◌, not, nat_le, Bool, false, if◌then◌else◌, List, [], ◌∷◌, codes, bytes_eq, Option, Some, None, option_map}
 use Rattle.std.specs.Char.{is_ascii_digit}
-use Rattle.std.specs.List.{list_all, slice_split}
+use Rattle.std.specs.List.{list_all, list_any, slice_split}
 use Rattle.std.specs.Result.{result_ok}
 use Rattle.std.specs.Str.Parse.{digits_value}
-use Rattle.hex.specs.Hex.{decode_of}
+use Rattle.hex.specs.Hex.{decode_of, decode_sized}
 use Rattle.rws_board.specs.declared.event.Event.{Event}
-use Rattle.rws_board.specs.declared.event.Event.TheVariants.{Begin, ClientBytes, ClientGone, LinkBytes, LinkGone}
+use Rattle.rws_board.specs.declared.event.Event.TheVariants.{Accept, Begin, ClientBytes, ClientGone, LinkReady, LinkBytes, LinkGone}
 use Rattle.rws_trace.specs.declared.event_line.EventLine.{EventLine}
 use Rattle.rws_trace.specs.declared.settings.TraceSettings.{TraceSettings}
 use Rattle.rws_trace.specs.declared.event_line.EventLine.TheVariants.{Silent, Says, Bad}
@@ -53,6 +56,15 @@ abbrev pub bytes_of : List ℕ → Option (List ℕ)
 bytes_of [] = None
 bytes_of word = result_ok (decode_of word)
 
+-- bytes of which none is zero
+abbrev pub unless_zero : Option (List ℕ) → Option (List ℕ)
+unless_zero (Some bytes) = if list_any (λ byte. byte == 0) bytes then None else Some bytes
+unless_zero None = None
+
+-- the twenty bytes that a word writes in hex, if none is zero
+abbrev pub scramble_of : List ℕ → Option (List ℕ)
+scramble_of word = unless_zero (result_ok (decode_sized word 20))
+
 -- f of the two values, if both are there
 abbrev pub with_both : {A B C : Type 0} → (A → B → C) → Option A → Option B → Option C
 with_both f (Some a) (Some b) = Some (f a b)
@@ -66,12 +78,14 @@ begin_of settings session server =
 abbrev pub event_of_two : List ℕ → List ℕ → Option Event
 event_of_two keyword number =
     if bytes_eq keyword (codes "gone") then option_map ClientGone (session_of number)
+    else if bytes_eq keyword (codes "ready") then option_map LinkReady (link_of number)
     else if bytes_eq keyword (codes "lost") then option_map LinkGone (link_of number)
     else None
 
 abbrev pub event_of_three : TraceSettings → List ℕ → List ℕ → List ℕ → Option Event
 event_of_three settings keyword number word =
-    if bytes_eq keyword (codes "begin") then begin_of settings number word
+    if bytes_eq keyword (codes "accept") then with_both Accept (session_of number) (scramble_of word)
+    else if bytes_eq keyword (codes "begin") then begin_of settings number word
     else if bytes_eq keyword (codes "client") then with_both ClientBytes (session_of number) (bytes_of word)
     else if bytes_eq keyword (codes "link") then with_both LinkBytes (link_of number) (bytes_of word)
     else None

@@ -2,7 +2,7 @@
 use Rattle.std.specs.Prelude.{ℕ, List, ◌++◌, codes, decimal, flat_map}
 use Rattle.hex.specs.Hex.{encode_lower}
 use Rattle.rws_board.specs.declared.action.Action.{Action}
-use Rattle.rws_board.specs.declared.action.Action.TheVariants.{ToClient, ToLink, Drop, Close}
+use Rattle.rws_board.specs.declared.action.Action.TheVariants.{Open, ToClient, ToLink, Drop, Close}
 use Rattle.rws_wire.specs.declared.close_reason.CloseReason.{CloseReason}
 use Rattle.rws_wire.specs.declared.close_reason.CloseReason.TheVariants.{Quit, Handshake, Access, Connections, OutOfOrder, TooLarge, Flooded, ResultCut, OutcomeUnknown, SessionState, NotReplayable, Mismatch, Attempts, ReplayTime, Memory}
 use Rattle.rws_wire.specs.declared.drop_cause.DropCause.{DropCause}
@@ -46,6 +46,7 @@ line word number text = word ++ (decimal number ++ (codes " " ++ (text ++ codes 
 
 -- the line of an action
 abbrev pub action_text : Action → List ℕ
+action_text (Open link server session) = line (codes "open ") link (decimal server ++ (codes " " ++ decimal session))
 action_text (ToClient session bytes) = line (codes "client ") session (encode_lower bytes)
 action_text (ToLink link bytes) = line (codes "link ") link (encode_lower bytes)
 action_text (Drop link cause) = line (codes "drop ") link (cause_text cause)

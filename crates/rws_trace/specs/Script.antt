@@ -3,7 +3,7 @@ use Rattle.std.specs.Prelude.{ℕ, ◌+◌, ◌==◌, ◌||◌, nat_lt, if◌the
 use Rattle.rws_trace.specs.EventLine.{meaning_of}
 use Rattle.rws_trace.specs.Lines.{lines_of}
 use Rattle.rws_board.specs.declared.event.Event.{Event}
-use Rattle.rws_board.specs.declared.event.Event.TheVariants.{Begin}
+use Rattle.rws_board.specs.declared.event.Event.TheVariants.{Accept, Begin}
 use Rattle.rws_trace.specs.declared.event_line.EventLine.{EventLine}
 use Rattle.rws_trace.specs.declared.event_line.EventLine.TheVariants.{Silent, Says, Bad}
 use Rattle.rws_trace.specs.declared.event_line.TheConstants.{MAX_LINE, LAST_LINE}
@@ -28,6 +28,7 @@ all_before events script = record { events = events ++ script.events; bad_line =
 
 -- sessions begin with rising numbers: `begun` is that of the last one, or 0
 abbrev pub in_order : ℕ → EventLine → EventLine
+in_order begun (Says (Accept session scramble)) = if nat_lt begun session then Says (Accept session scramble) else Bad
 in_order begun (Says (Begin session server)) = if nat_lt begun session then Says (Begin session server) else Bad
 in_order begun meaning = meaning
 
@@ -38,6 +39,7 @@ meaning_at settings number begun line =
 
 -- the last session begun, after a line with this meaning
 abbrev pub begun_after : ℕ → EventLine → ℕ
+begun_after begun (Says (Accept session scramble)) = session
 begun_after begun (Says (Begin session server)) = session
 begun_after begun meaning = begun
 

@@ -1,13 +1,13 @@
 //! One line of a trace, read: its words, and the event that they say.
-ghost use Rattle.std.specs.Prelude.{◌≡◌, ◌∷◌, [], ◌-◌, ◌^◌, ◌<◌, ◌≤◌, IfOk, IfSome, MatchOption};
+ghost use Rattle.std.specs.Prelude.{◌≡◌, ◌==◌, ◌∷◌, [], ◌-◌, ◌^◌, ◌<◌, ◌≤◌, IfOk, IfSome, MatchOption};
 ghost use Rattle.std.specs.Char.{is_ascii_digit};
-ghost use Rattle.std.specs.List.{list_all};
-ghost use Rattle.rws_trace.specs.EventLine.{words_of, is_number, has_leading_zero, number_within, session_of, link_of, server_of, bytes_of, with_both, begin_of, event_of_two, event_of_three, event_of, meaning_of};
-ghost use Rattle.rws_board.specs.declared.event.Event.TheVariants.{ClientBytes, LinkBytes};
+ghost use Rattle.std.specs.List.{list_all, list_any};
+ghost use Rattle.rws_trace.specs.EventLine.{words_of, is_number, has_leading_zero, number_within, session_of, link_of, server_of, bytes_of, scramble_of, with_both, begin_of, event_of_two, event_of_three, event_of, meaning_of};
+ghost use Rattle.rws_board.specs.declared.event.Event.TheVariants.{Accept, ClientBytes, LinkBytes};
 
 use crate::bytes::place_of;
 use crate::settings::TraceSettings;
-use hex::FromHexError;
+use hex::{FromHex, FromHexError};
 use rws_board::Event;
 use rws_wire::Text;
 use std::alloc::{AllocError, Global};
@@ -83,6 +83,9 @@ fn read_two(keyword: &[u8], number: &[u8]) -> Option<Event>
     if keyword == b"gone".as_slice() {
         return read_session(number).map(|session| Event::ClientGone { session });
     }
+    if keyword == b"ready".as_slice() {
+        return read_link(number).map(|link| Event::LinkReady { link });
+    }
     if keyword == b"lost".as_slice() {
         return read_link(number).map(|link| Event::LinkGone { link });
     }
@@ -99,6 +102,9 @@ fn read_three(
 ) -> Result<Option<Event>, AllocError>
     ensures { IfOk result (λ event. event ≡ event_of_three settings keyword.now number.now word.now) }
 {
+    if keyword == b"accept".as_slice() {
+        return Ok(read_accept(number, word));
+    }
     if keyword == b"begin".as_slice() {
         return Ok(read_begin(settings, number, word));
     }
@@ -109,6 +115,15 @@ fn read_three(
         return read_link_bytes(alloc, number, word);
     }
     Ok(None)
+}
+
+// A client that connects.
+fn read_accept(number: &[u8], word: &[u8]) -> Option<Event>
+    ensures { result ≡ with_both Accept (session_of number.now) (scramble_of word.now) }
+{
+    let session = read_session(number)?;
+    let scramble = read_scramble(word)?;
+    Some(Event::Accept { session, scramble })
 }
 
 // A session that begins on one of the settings' servers.
@@ -226,4 +241,22 @@ fn read_bytes(alloc: Global, word: &[u8]) -> Result<Option<Text>, AllocError>
         Err(FromHexError::OutOfMemory) => Err(AllocError),
         Err(_) => Ok(None),
     }
+}
+
+// The twenty bytes that a word writes in hex, where none is zero.
+fn read_scramble(word: &[u8]) -> Option<[u8; 20]>
+    ensures { result ≡ scramble_of word.now }
+{
+    let scramble = <[u8; 20]>::from_hex(word).ok()?;
+    if has_zero(&scramble) {
+        None
+    } else {
+        Some(scramble)
+    }
+}
+
+fn has_zero(bytes: &[u8]) -> bool
+    ensures { result ≡ list_any (λ byte. byte == 0) bytes.now }
+{
+    bytes.iter().any(|byte| *byte == 0)
 }

@@ -21,7 +21,7 @@ pub struct Place {
     pub settings: TraceSettings,
     /// The number of the next line, from 1.
     pub number: u64,
-    /// The session that the last `begin` line began, or 0.
+    /// The session that the last `accept` or `begin` line began, or 0.
     pub begun: u32,
     /// How many events were told, the end left out.
     pub events: u64,
@@ -120,6 +120,7 @@ fn read_in_order(
     ensures { IfOk result (λ meaning. meaning ≡ in_order begun (meaning_of settings line.now)) }
 {
     match read_line(alloc, settings, line)? {
+        EventLine::Says(Event::Accept { session, .. }) if session <= begun => Ok(EventLine::Bad),
         EventLine::Says(Event::Begin { session, .. }) if session <= begun => Ok(EventLine::Bad),
         meaning => Ok(meaning),
     }
@@ -130,6 +131,7 @@ fn begun_after(begun: u32, event: &Event) -> u32
     ensures { result ≡ begun_after begun (Says event.now) }
 {
     match event {
+        Event::Accept { session, .. } => *session,
         Event::Begin { session, .. } => *session,
         _ => begun,
     }

@@ -15,6 +15,11 @@ pub fn action_line(alloc: Global, action: &Action) -> Result<Text, AllocError>
     ensures { IfOk result (λ text. text ≡ action_text action.now) }
 {
     let line = match action {
+        Action::Open {
+            link,
+            server,
+            session,
+        } => format!(in alloc; "open {link} {server} {session}\n")?,
         Action::ToClient { session, bytes } => {
             let bytes = print_bytes(alloc, bytes)?;
             format!(in alloc; "client {session} {bytes}\n")?

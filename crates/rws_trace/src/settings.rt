@@ -6,6 +6,6 @@
 pub struct TraceSettings {
     /// How many servers a `begin` line may name, from 1 to 7.
     pub servers: u8,
-    /// Whether a session may begin.
+    /// Whether a `begin` line may begin a session.
     pub plain: bool,
 }

@@ -12,7 +12,7 @@ const THREE: TraceSettings = TraceSettings {
 };
 
 // How many events these lines say, and which of them is bad, or 0.
-const TRACES: [(&[u8], u64, u64); 16] = [
+const TRACES: [(&[u8], u64, u64); 36] = [
     (b"", 0, 0),
     (b"\n\n# begin\nlost 1", 1, 0),
     (
@@ -33,6 +33,42 @@ const TRACES: [(&[u8], u64, u64); 16] = [
     (b"client 1 0", 0, 1),
     (b"client 1 0g", 0, 1),
     (b"gone 1\r\n", 0, 1),
+    (
+        b"accept 1 0102030405060708090a0B0c0D0e0f101112fFfE\nready 18446744073709551615\nbegin 2 0\naccept 4294967295 0102030405060708090a0B0c0D0e0f101112fFfE\n",
+        4,
+        0,
+    ),
+    (
+        b"begin 2 0\naccept 2 0102030405060708090a0B0c0D0e0f101112fFfE\n",
+        1,
+        2,
+    ),
+    (
+        b"accept 2 0102030405060708090a0B0c0D0e0f101112fFfE\naccept 1 0102030405060708090a0B0c0D0e0f101112fFfE\n",
+        1,
+        2,
+    ),
+    (
+        b"accept 2 0102030405060708090a0B0c0D0e0f101112fFfE\nbegin 2 0\n",
+        1,
+        2,
+    ),
+    (b"accept 0 0102030405060708090a0B0c0D0e0f101112fFfE", 0, 1),
+    (b"accept 1 0102030405060708090a0B0c0D0e0f101112fF", 0, 1),
+    (b"accept 1 0102030405060708090a0B0c0D0e0f101112fFf", 0, 1),
+    (b"accept 1 0102030405060708090a0B0c0D0e0f101112fFfE1", 0, 1),
+    (b"accept 1 0102030405060708090a0B0c0D0e0f101112fFfE11", 0, 1),
+    (b"accept 1 0102030405060708090a0B0c0D0e0f101112fF00", 0, 1),
+    (b"accept 1 1001030405060708090a0B0c0D0e0f101112fFfE", 1, 0),
+    (b"accept 1 0102030405060708090a0B0c0D0e0f101112fF0g", 0, 1),
+    (b"accept 1", 0, 1),
+    (b"accept 1 0102030405060708090a0B0c0D0e0f101112fFfE 0", 0, 1),
+    (b"ready 1\nready 0", 1, 2),
+    (b"ready 01", 0, 1),
+    (b"ready 18446744073709551616", 0, 1),
+    (b"ready 1 00", 0, 1),
+    (b"clock 1", 0, 1),
+    (b"observe 0=master:1", 0, 1),
 ];
 
 fn source(alloc: Global, text: &[u8], fails: &[u64]) -> Result<MemSource, Fail> {
@@ -107,6 +143,15 @@ fn actions_print_lines(rt: HostRuntime) -> Result<(), Fail> {
     assert_eq!(rt;
         action_line(alloc, &sends)?.as_slice(),
         b"client 1 000aff\n".as_slice()
+    );
+    let opens = Action::Open {
+        link: 3,
+        server: 0,
+        session: 2,
+    };
+    assert_eq!(rt;
+        action_line(alloc, &opens)?.as_slice(),
+        b"open 3 0 2\n".as_slice()
     );
     let reason = CloseReason::OutOfOrder { want: 0, got: 1 };
     let closes = Action::Close { session: 1, reason };
