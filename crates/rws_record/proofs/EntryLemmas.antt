@@ -1,10 +1,13 @@
 -- How a run goes on: what the next entry is, and what it leaves as it was.
-use Rattle.std.proofs.Common.{◌≡◌, ℕ, List, [], ◌∷◌, refl, subst, ◌∙◌, Option, Some, None}
+use Rattle.std.proofs.Common.{◌≡◌, ℕ, ◌+◌, List, [], ◌∷◌, refl, subst, ◌∙◌, Option, Some, None}
 use Rattle.std.specs.Option.{option_map}
 use Rattle.rws_config.specs.declared.config.Config.{Config}
+use Rattle.rws_native.specs.declared.login.Login.{Login}
 use Rattle.rws_record.specs.Item.{Item}
+use Rattle.rws_record.specs.Item.Item.{Routed}
+use Rattle.rws_record.specs.Values.{asking}
 use Rattle.rws_record.specs.Rules.{next, ◌or◌}
-use Rattle.rws_record.specs.Run.{Entry, next_entry, step_of, hearing, hearer, untold, record_of, events_of, greatest}
+use Rattle.rws_record.specs.Run.{Entry, answer_of, answering, next_entry, only_server, step_of, hearing, hearer, last_link, untold, record_of, events_of, greatest}
 use Rattle.rws_record.specs.Run.Entry.{Heard, Did}
 use Rattle.rws_record.proofs.StepLemmas.{neither}
 
@@ -13,8 +16,12 @@ pub data Next (config : Config) (run : List Entry) : Entry → Type 0 where
   -- the session that heard something goes on
   did : {session : ℕ} {item : Item} → hearer run ≡ Some session → next config (record_of session run) ≡ Some item
       → Next config run (Did session item)
+  -- it asked the worker, and is answered
+  answered : {session : ℕ} {login : Login} → hearer run ≡ Some session → asking (record_of session run) ≡ Some login
+      → Next config run (Did session (Routed (last_link run + 1) only_server))
   -- it rests, and the next one hears what it is told
   heard : {session : ℕ} {item : Item} {others : List (ℕ × Item)} → step_of config (hearer run) run ≡ None
+      → answer_of (hearer run) run ≡ None
       → untold config run ≡ (session, item) ∷ others → Next config run (Heard session item)
 
 module _ (config : Config) (run : List Entry) (entry : Entry) where
@@ -28,31 +35,56 @@ module _ (config : Config) (run : List Entry) (entry : Entry) where
       by_next (Some item) n e = let same : Did session item ≡ entry = cc in subst (Next config run) same (did h n)
 
   of_hearing : (told : List (ℕ × Item)) → untold config run ≡ told → step_of config (hearer run) run ≡ None
-      → hearing told ≡ Some entry → Next config run entry
-  of_hearing [] u quiet e = absurd cc
-  of_hearing (first ∷ others) u quiet e =
-      let same : Heard first.0 first.1 ≡ entry = cc in subst (Next config run) same (heard quiet u)
+      → answer_of (hearer run) run ≡ None → hearing told ≡ Some entry → Next config run entry
+  of_hearing [] u quiet none e = absurd cc
+  of_hearing (first ∷ others) u quiet none e =
+      let same : Heard first.0 first.1 ≡ entry = cc in subst (Next config run) same (heard quiet none u)
+
+  of_answer : (its : Option ℕ) → hearer run ≡ its → answer_of its run ≡ Some entry → Next config run entry
+  of_answer None h e = absurd cc
+  of_answer (Some session) h e = by_asking (asking (record_of session run)) refl e
+    where
+      by_asking : (login : Option Login) → asking (record_of session run) ≡ login
+          → answering login session (last_link run) ≡ Some entry → Next config run entry
+      by_asking None a e = absurd cc
+      by_asking (Some login) a e =
+          let same : Did session (Routed (last_link run + 1) only_server) ≡ entry = cc in
+          subst (Next config run) same (answered h a)
 
   pub of_next_entry : next_entry config run ≡ Some entry → Next config run entry
   of_next_entry e = by_step (step_of config (hearer run) run) refl e
     where
+      by_answer : (its : Option Entry) → answer_of (hearer run) run ≡ its → step_of config (hearer run) run ≡ None
+          → (its or hearing (untold config run)) ≡ Some entry → Next config run entry
+      by_answer None a s e = of_hearing (untold config run) refl s a e
+      by_answer (Some other) a s e = of_answer (hearer run) refl (a ∙ e)
+
       by_step : (step : Option Entry) → step_of config (hearer run) run ≡ step
-          → (step or hearing (untold config run)) ≡ Some entry → Next config run entry
-      by_step None s e = of_hearing (untold config run) refl s e
+          → (step or (answer_of (hearer run) run or hearing (untold config run))) ≡ Some entry → Next config run entry
+      by_step None s e = by_answer (answer_of (hearer run) run) refl s e
       by_step (Some other) s e = of_step (hearer run) refl (s ∙ e)
 
--- a run that rests has told all, and the session that heard of the last event rests
-pub rests : (config : Config) (run : List Entry) → next_entry config run ≡ None
-    → (step_of config (hearer run) run ≡ None) × (hearing (untold config run) ≡ None)
-rests config run e = neither (step_of config (hearer run) run) (hearing (untold config run)) e
+-- what a run that rests says: it has told all, and the session that heard of the last event rests, and was answered
+pub record Still (config : Config) (run : List Entry) : Type 0 where
+  pub steps : step_of config (hearer run) run ≡ None
+  pub answers : answer_of (hearer run) run ≡ None
+  pub tells : hearing (untold config run) ≡ None
+
+pub rests : (config : Config) (run : List Entry) → next_entry config run ≡ None → Still config run
+rests config run e =
+    let first = neither (step_of config (hearer run) run) (answer_of (hearer run) run or hearing (untold config run)) e in
+    let rest = neither (answer_of (hearer run) run) (hearing (untold config run)) first.1 in
+    record { steps = first.0; answers = rest.0; tells = rest.1 }
 
 -- no event stands in it
 pub same_events : {config : Config} {run : List Entry} {entry : Entry} → Next config run entry
     → events_of (entry ∷ run) ≡ events_of run
 same_events (did h n) = refl
-same_events (heard q u) = refl
+same_events (answered h a) = refl
+same_events (heard q n u) = refl
 
 pub same_greatest : {config : Config} {run : List Entry} {entry : Entry} → Next config run entry
     → greatest (entry ∷ run) ≡ greatest run
 same_greatest (did h n) = refl
-same_greatest (heard q u) = refl
+same_greatest (answered h a) = refl
+same_greatest (heard q n u) = refl

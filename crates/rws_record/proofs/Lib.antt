@@ -3,6 +3,7 @@ pub mod LinkedLemmas
 pub mod WithoutLemmas
 pub mod StepLemmas
 pub mod RestLemmas
+pub mod OpeningLemmas
 pub mod EntryLemmas
 -- the law that events determine the run
 pub mod OneRunLemmas
@@ -10,6 +11,7 @@ pub mod OneRunLemmas
 pub mod WantLemmas
 -- runs over given events, computed
 pub mod WorkedRuns
+pub mod LoginRuns
 -- the laws on the records in a run
 pub mod RecordLemmas
 pub mod LinkLemmas

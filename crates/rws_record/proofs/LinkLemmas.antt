@@ -1,21 +1,27 @@
 -- In a legal run no two sessions have a link in common: a link was opened once, for one session.
-use Rattle.std.proofs.Common.{◌≡◌, ℕ, zero, suc, ◌+◌, ◌<◌, ◌≤◌, Bool, true, false, List, [], ◌∷◌, refl, sym, ap, ◌∙◌, arith, inl, inr, Some, None}
+use Rattle.std.proofs.Common.{◌≡◌, ℕ, zero, suc, ◌+◌, ◌<◌, ◌≤◌, Bool, true, false, List, [], ◌∷◌, refl, sym, ap, subst, ◌++◌, ◌∙◌, arith, inl, inr, Option, Some, None}
 use Rattle.std.specs.Prelude.{Contains, ◌==◌, filter, length, slice_index_or, if◌then◌else◌}
 use Rattle.std.specs.Option.{option_map}
 use Rattle.std.proofs.lemmas.List.Elements.{Contains-append_cases}
+use Rattle.rws_native.specs.declared.login.Login.{Login}
 use Rattle.rws_config.specs.declared.config.Config.{Config}
-use Rattle.rws_record.specs.Item.{Item}
-use Rattle.rws_record.specs.Item.Item.{Began, ClientBytes, LinkBytes, ClientGone, LinkLost, Comes, Takes, TakesFault, Floods, Puts, Starves}
-use Rattle.rws_record.specs.Item.Put.{Tells, Sends, Drops, Closes}
-use Rattle.rws_record.specs.Values.{links, opens}
-use Rattle.rws_record.specs.Run.{Entry, IsRun, record_of, link_by, last_link}
-use Rattle.rws_record.specs.Run.Entry.{Heard}
+use Rattle.rws_record.specs.Item.{Item, Put}
+use Rattle.rws_record.specs.Item.Item.{Accepted, TurnsAway, Began, ClientBytes, LinkReady, LinkBytes, ClientGone, LinkLost, Routed, Comes, Connects, Takes, Floods, Puts, Starves}
+use Rattle.rws_record.specs.Item.Put.{Hands, Tells, Routes, Opens, LogsInto, Sends, Drops, Closes}
+use Rattle.rws_record.specs.Values.{asking, links, opened_by, opens, without}
+use Rattle.rws_record.specs.Rules.{after_route, owed}
+use Rattle.rws_record.specs.Record.{IsBeginning, IsInput}
+use Rattle.rws_record.specs.Run.{Entry, IsRun, hearer, record_of, link_by, last_link, only_server}
+use Rattle.rws_record.specs.Run.Entry.{Heard, Did}
 use Rattle.rws_record.specs.Run.IsRun.{starts, came, goes_on, starves}
 use Rattle.rws_record.specs.Laws.{Apart}
-use Rattle.rws_record.proofs.StepLemmas.{of_next, step_opens_none, input_opens_none}
+use Rattle.rws_record.proofs.StepLemmas.{Step, of_next, input_opens_none, rests_owing_nothing}
+use Rattle.rws_record.proofs.StepLemmas.Due.{comes, connects, takes}
+use Rattle.rws_record.proofs.StepLemmas.Step.{pays, asks, prepares, sends, floods, reads}
+use Rattle.rws_record.proofs.OpeningLemmas.{is_answered, plain_unless_answered, step_unanswered}
 use Rattle.rws_record.proofs.EntryLemmas.{Next, of_next_entry}
-use Rattle.rws_record.proofs.EntryLemmas.Next.{did, heard}
-use Rattle.rws_record.proofs.RecordLemmas.{one_more, Hearable, each_of, first_of}
+use Rattle.rws_record.proofs.EntryLemmas.Next.{did, answered, heard}
+use Rattle.rws_record.proofs.RecordLemmas.{IsStill, one_more, Hearable, each_of, first_of, rests_each}
 use Rattle.rws_record.proofs.RecordLemmas.Hearable.{begins_it, comes_in}
 
 -- the link was opened in the record
@@ -46,109 +52,231 @@ only one x has = by_place has.0 has.1 has.2
     by_place zero small e = e
     by_place (suc k) small e = absurd (omega arith)
 
+-- a link that an item opens, or one that was there before
+with_one : (past : List Item) (item : Item) (its server link : ℕ) → opens item ≡ Some (its, server)
+    → (Contains (links past) link → Opened link past) → Contains (without its (links past) ++ its ∷ []) link → Opened link (item ∷ past)
+with_one past item its server link o before has =
+    elim (Contains-append_cases (without its (links past)) (its ∷ []) link has) [
+      | inl earlier ↦ below (before (filtered _ (links past) link earlier))
+      | inr now ↦ here (let same = only its link now in o ∙ ap (λ (n : ℕ). Some (n, server)) same)
+    ]
+
 opened : (past : List Item) (link : ℕ) → Contains (links past) link → Opened link past
 opened [] link has = absurd (omega (arith, has.1))
-opened (Began its server ∷ past) link has =
-    elim (Contains-append_cases (links past) (its ∷ []) link has) [
-      | inl before ↦ below (opened past link before)
-      | inr now ↦ here (let same = only its link now in ap (λ (n : ℕ). Some (n, server)) same)
-    ]
+opened (Began its server ∷ past) link has = with_one past (Began its server) its server link refl (opened past link) has
+opened (Puts (Opens its server login) ∷ past) link has =
+    with_one past (Puts (Opens its server login)) its server link refl (opened past link) has
+opened (Accepted session scramble ∷ past) link has = below (opened past link has)
+opened (TurnsAway told ∷ past) link has = below (opened past link has)
 opened (ClientBytes bytes ∷ past) link has = below (opened past link has)
+opened (LinkReady ready ∷ past) link has = below (opened past link has)
 opened (LinkBytes from bytes ∷ past) link has = below (opened past link has)
 opened (ClientGone ∷ past) link has = below (opened past link has)
 opened (LinkLost lost ∷ past) link has = below (opened past link (filtered _ (links past) link has))
+opened (Routed its server ∷ past) link has = below (opened past link has)
 opened (Comes from said ∷ past) link has = below (opened past link has)
+opened (Connects said ∷ past) link has = below (opened past link has)
 opened (Takes judged number ∷ past) link has = below (opened past link has)
-opened (TakesFault fault ∷ past) link has = below (opened past link has)
 opened (Floods bytes ∷ past) link has = below (opened past link has)
-opened (Starves made ∷ past) link has = below (opened past link has)
+opened (Starves made number ∷ past) link has = below (opened past link has)
+opened (Puts (Hands packets) ∷ past) link has = below (opened past link has)
 opened (Puts (Tells number tell) ∷ past) link has = below (opened past link has)
+opened (Puts (Routes login) ∷ past) link has = below (opened past link has)
+opened (Puts (LogsInto to packets) ∷ past) link has = below (opened past link has)
 opened (Puts (Sends to purpose) ∷ past) link has = below (opened past link has)
 opened (Puts (Drops given cause) ∷ past) link has = below (opened past link (filtered _ (links past) link has))
 opened (Puts (Closes reason) ∷ past) link has = below (opened past link has)
 
 -- Links are numbered in order of opening
 
-record Numbered (run : List Entry) : Type 0 where
-  low : (session link : ℕ) → Opened link (record_of session run) → link ≤ last_link run
-  apart : (one other link : ℕ) → Opened link (record_of one run) → Opened link (record_of other run) → one ≡ other
+pub record Numbered (run : List Entry) : Type 0 where
+  pub low : (session link : ℕ) → Opened link (record_of session run) → link ≤ last_link run
+  pub apart : (one other link : ℕ) → Opened link (record_of one run) → Opened link (record_of other run) → one ≡ other
+  -- a link that is about to be opened has the next number
+  pub next : (session link server : ℕ) (login : Login) (others : List Put) → owed (record_of session run) ≡ Opens link server login ∷ others
+      → link ≡ last_link run + 1
 
 no_more : (item : Item) (past : List Item) (link : ℕ) → opens item ≡ None → Opened link (item ∷ past) → Opened link past
 no_more item past link none (here e) = absurd cc
 no_more item past link none (below before) = before
 
--- an item that opens no link
-opens_nothing : {run now : List Entry} → ((session link : ℕ) → Opened link (record_of session now) → Opened link (record_of session run))
-    → last_link now ≡ last_link run → Numbered run → Numbered now
-opens_nothing {run} {now} before last numbered = record {
-  low = λ session link is. let least = numbered.low session link (before session link is) in rw last least;
-  apart = λ one other link is also. numbered.apart one other link (before one link is) (before other link also);
-}
+-- nothing but the worker's answer leads to an opening
+opens_nothing_now : {A : Type 0} (past : List Item) (link server : ℕ) (login : Login) (others : List Put) → is_answered past ≡ false
+    → owed past ≡ Opens link server login ∷ others → A
+opens_nothing_now past link server login others plain o =
+    let clash : false ≡ true = rw o at (plain_unless_answered past plain) in absurd cc
 
-with_item : (run : List Entry) (session other link : ℕ) (item : Item) → opens item ≡ None
-    → Opened link (if session == other then item ∷ record_of other run else record_of other run) → Opened link (record_of other run)
-with_item run session other link item none =
-    one_more (λ past. Opened link past → Opened link (record_of other run)) session other item (record_of other run)
-    (λ same is. no_more item (record_of other run) link none is) (λ _ is. is)
+owing_nothing : {A : Type 0} (past : List Item) (put : Put) (others : List Put) → owed past ≡ [] → owed past ≡ put ∷ others → A
+owing_nothing past put others none some = let clash : [] ≡ put ∷ others = sym none ∙ some in absurd cc
 
-last_by : (item : Item) (session before : ℕ) → opens item ≡ None
-    → link_by (option_map (λ (o : ℕ × ℕ). (session, o.0)) (opens item)) before ≡ before
-last_by item session before none = rw none refl
+-- what happens to one session: the others owe nothing, and this one has an item more
+module _ (run now : List Entry) (session : ℕ) (item : Item)
+    (records : (other : ℕ) → record_of other now ≡ (if session == other then item ∷ record_of other run else record_of other run))
+    (last : last_link now ≡ link_by (option_map (λ (o : ℕ × ℕ). (session, o.0)) (opens item)) (last_link run))
+    (quiet : (other : ℕ) → (session ≡ other → ⊥) → owed (record_of other run) ≡ [])
+    (its_next : (link server : ℕ) (login : Login) (others : List Put) → owed (item ∷ record_of session run) ≡ Opens link server login ∷ others
+    → link ≡ last_link now + 1)
+    (numbered : Numbered run) where
+  next_one : (other link server : ℕ) (login : Login) (others : List Put) → owed (record_of other now) ≡ Opens link server login ∷ others
+      → link ≡ last_link now + 1
+  next_one other link server login others o =
+      one_more (λ past. owed past ≡ Opens link server login ∷ others → link ≡ last_link now + 1) session other item (record_of other run)
+      (λ same is. its_next link server login others (subst (λ (n : ℕ). owed (item ∷ record_of n run) ≡ Opens link server login ∷ others) (sym same) is))
+      (λ differ is. owing_nothing (record_of other run) (Opens link server login) others (quiet other differ) is)
+      (rw (← records other) o)
 
--- a session that begins, on the next link
+  -- it opens no link
+  without_opening : opens item ≡ None → Numbered now
+  without_opening none = record {
+    low = λ other link is.
+        let least = numbered.low other link (before other link (rw (records other) at is)) in
+        let stays : last_link now ≡ last_link run = last ∙ rw none refl in omega arith;
+    apart = λ one other link is also.
+        numbered.apart one other link (before one link (rw (records one) at is)) (before other link (rw (records other) at also));
+    next = next_one;
+  }
+    where
+      before : (other link : ℕ) → Opened link (if session == other then item ∷ record_of other run else record_of other run)
+          → Opened link (record_of other run)
+      before other link =
+          one_more (λ past. Opened link past → Opened link (record_of other run)) session other item (record_of other run)
+          (λ same is. no_more item (record_of other run) link none is) (λ _ is. is)
 
-data Begins (session other link server : ℕ) (past : List Item) (now : ℕ) : Type 0 where
-  its_own : session ≡ other → now ≡ link → Begins session other link server past now
-  before : Opened now past → Begins session other link server past now
+  -- or it opens the next one
+  data OpensOne (link other now_link : ℕ) : Type 0 where
+    its_own : session ≡ other → now_link ≡ link → OpensOne link other now_link
+    before : Opened now_link (record_of other run) → OpensOne link other now_link
 
-begins_or_not : (run : List Entry) (session other link server now : ℕ)
-    → Opened now (if session == other then Began link server ∷ record_of other run else record_of other run)
-    → Begins session other link server (record_of other run) now
-begins_or_not run session other link server now =
-    one_more (λ past. Opened now past → Begins session other link server (record_of other run) now) session other (Began link server) (record_of other run)
-    (λ same is. by_opened same is) (λ _ is. before is)
+  opens_or_not : (link server other now_link : ℕ) → opens item ≡ Some (link, server)
+      → Opened now_link (if session == other then item ∷ record_of other run else record_of other run) → OpensOne link other now_link
+  opens_or_not link server other now_link o =
+      one_more (λ past. Opened now_link past → OpensOne link other now_link) session other item (record_of other run)
+      (λ same is. by_opened same is) (λ _ is. before is)
+    where
+      by_opened : session ≡ other → Opened now_link (item ∷ record_of other run) → OpensOne link other now_link
+      by_opened same (here {server = its} e) =
+          let both : ◌≡◌ {A = Option (ℕ × ℕ)} (Some (link, server)) (Some (now_link, its)) = sym o ∙ e in
+          let pair : ◌≡◌ {A = ℕ × ℕ} (link, server) (now_link, its) = cc in its_own same (sym (ap (λ (p : ℕ × ℕ). p.0) pair))
+      by_opened same (below is) = before is
+
+  with_opening : (link server : ℕ) → opens item ≡ Some (link, server) → link ≡ last_link run + 1 → Numbered now
+  with_opening link server o l =
+      let newest : last_link now ≡ link = last ∙ rw o refl in
+      record {
+        low = λ other now_link is. elim (opens_or_not link server other now_link o (rw (records other) at is)) [
+          | its_own same e ↦ omega arith
+          | before is ↦ let least = numbered.low other now_link is in omega arith
+        ];
+        apart = λ one other now_link is also. elim (opens_or_not link server one now_link o (rw (records one) at is)) [
+          | its_own same e ↦ elim (opens_or_not link server other now_link o (rw (records other) at also)) [
+            | its_own too f ↦ sym same ∙ too
+            | before too ↦ let least = numbered.low other now_link too in absurd (omega arith)
+          ]
+          | before is ↦ elim (opens_or_not link server other now_link o (rw (records other) at also)) [
+            | its_own too f ↦ let least = numbered.low one now_link is in absurd (omega arith)
+            | before too ↦ numbered.apart one other now_link is too
+          ]
+        ];
+        next = next_one;
+      }
+
+  by_opening : (opened : Option (ℕ × ℕ)) → opens item ≡ opened → ((link server : ℕ) → opens item ≡ Some (link, server) → link ≡ last_link run + 1)
+      → Numbered now
+  by_opening None o next = without_opening o
+  by_opening (Some opened) o next = with_opening opened.0 opened.1 o (next opened.0 opened.1 o)
+
+  numbered_now : ((link server : ℕ) → opens item ≡ Some (link, server) → link ≡ last_link run + 1) → Numbered now
+  numbered_now next = by_opening (opens item) refl next
+
+pub none_opens : (next : ℕ) (item : Item) → opens item ≡ None → (link server : ℕ) → opens item ≡ Some (link, server) → link ≡ next
+none_opens next item none link server some =
+    let clash : ◌≡◌ {A = Option (ℕ × ℕ)} None (Some (link, server)) = sym none ∙ some in absurd cc
+
+begins_unanswered : (item : Item) (past : List Item) → IsBeginning item → is_answered (item ∷ past) ≡ false
+begins_unanswered (Accepted session scramble) past its = refl
+begins_unanswered (TurnsAway told) past its = refl
+begins_unanswered (Began link server) past its = refl
+begins_unanswered _ past its = absurd its
+
+input_unanswered : (item : Item) (past : List Item) → IsInput item past → is_answered (item ∷ past) ≡ false
+input_unanswered (ClientBytes bytes) past input = refl
+input_unanswered ClientGone past input = refl
+input_unanswered (LinkReady link) past input = refl
+input_unanswered (LinkBytes link bytes) past input = refl
+input_unanswered (LinkLost link) past input = refl
+input_unanswered _ past input = absurd input
+
+still_owing : (config : Config) (past : List Item) → IsStill config past → owed past ≡ []
+still_owing config past still = rests_owing_nothing config past still.0 still.1
+
+heard_numbered : (config : Config) {run : List Entry} {session : ℕ} {item : Item} → ((other : ℕ) → IsStill config (record_of other run))
+    → Hearable run session item → Numbered run → Numbered (Heard session item ∷ run)
+heard_numbered config {run = run} {session = session} {item = item} quiet (begins_it none its next) numbered =
+    numbered_now run (Heard session item ∷ run) session item (λ other. refl) refl (λ other _. still_owing config (record_of other run) (quiet other))
+    (λ link server login others o. opens_nothing_now (item ∷ record_of session run) link server login others (begins_unanswered item (record_of session run) its) o)
+    numbered next
+heard_numbered config {run = run} {session = session} {item = item} quiet (comes_in live input) numbered =
+    numbered_now run (Heard session item ∷ run) session item (λ other. refl) refl (λ other _. still_owing config (record_of other run) (quiet other))
+    (λ link server login others o. opens_nothing_now (item ∷ record_of session run) link server login others (input_unanswered item (record_of session run) input) o)
+    numbered (none_opens (last_link run + 1) item (input_opens_none item (record_of session run) input))
+
+-- a step opens the next link, if any
+pub step_opens_next : {config : Config} (run : List Entry) (session : ℕ) {item : Item} → Numbered run → Step config (record_of session run) item
+    → (link server : ℕ) → opens item ≡ Some (link, server) → link ≡ last_link run + 1
+step_opens_next run session numbered (pays {put = put} {others = others} o) link server is = by_put put o is
   where
-    by_opened : session ≡ other → Opened now (Began link server ∷ record_of other run) → Begins session other link server (record_of other run) now
-    by_opened same (here {server = its} e) =
-        let pair : ◌≡◌ {A = ℕ × ℕ} (link, server) (now, its) = cc in its_own same (sym (ap (λ (p : ℕ × ℕ). p.0) pair))
-    by_opened same (below is) = before is
+    by_put : (put : Put) → owed (record_of session run) ≡ put ∷ others → opened_by put ≡ Some (link, server) → link ≡ last_link run + 1
+    by_put (Opens its of login) o e =
+        let pair : ◌≡◌ {A = ℕ × ℕ} (its, of) (link, server) = cc in
+        sym (ap (λ (p : ℕ × ℕ). p.0) pair) ∙ numbered.next session its of login others o
+    by_put (Hands packets) o e = absurd cc
+    by_put (Tells number tell) o e = absurd cc
+    by_put (Routes login) o e = absurd cc
+    by_put (LogsInto to packets) o e = absurd cc
+    by_put (Sends to purpose) o e = absurd cc
+    by_put (Drops to cause) o e = absurd cc
+    by_put (Closes reason) o e = absurd cc
+step_opens_next run session numbered (asks o n p k l) link server e = absurd cc
+step_opens_next run session numbered (prepares o n k c) link server e = absurd cc
+step_opens_next run session numbered (sends o n p s k c) link server e = absurd cc
+step_opens_next run session numbered (floods o n p above) link server e = absurd cc
+step_opens_next run session numbered (reads o n (comes has a it)) link server e = absurd cc
+step_opens_next run session numbered (reads o n (connects p f c)) link server e = absurd cc
+step_opens_next run session numbered (reads o n (takes p f)) link server e = absurd cc
 
-begun : (run : List Entry) (session link server : ℕ) → link ≡ last_link run + 1 → Numbered run
-    → Numbered (Heard session (Began link server) ∷ run)
-begun run session link server l numbered = record {
-  low = λ other now is. elim (begins_or_not run session other link server now is) [
-    | its_own same e ↦ omega arith
-    | before is ↦ let least = numbered.low other now is in omega arith
-  ];
-  apart = λ one other now is also. elim (begins_or_not run session one link server now is) [
-    | its_own same e ↦ elim (begins_or_not run session other link server now also) [
-      | its_own too f ↦ sym same ∙ too
-      | before too ↦ let least = numbered.low other now too in absurd (omega arith)
-    ]
-    | before is ↦ elim (begins_or_not run session other link server now also) [
-      | its_own too f ↦ let least = numbered.low one now is in absurd (omega arith)
-      | before too ↦ numbered.apart one other now is too
-    ]
-  ];
-}
-
-heard_numbered : {run : List Entry} {session : ℕ} {item : Item} → Hearable run session item → Numbered run
-    → Numbered (Heard session item ∷ run)
-heard_numbered {run} {session} (begins_it {link = link} {server = server} none l) numbered = begun run session link server l numbered
-heard_numbered {run} {session} {item} (comes_in live input) numbered =
-    let none = input_opens_none item (record_of session run) input in
-    opens_nothing (λ other link. with_item run session other link item none) (last_by item session (last_link run) none) numbered
+-- the others than the session that heard of the last event owe nothing
+others_owing : {config : Config} {run : List Entry} {session : ℕ} → IsRun config run → hearer run ≡ Some session
+    → (other : ℕ) → (session ≡ other → ⊥) → owed (record_of other run) ≡ []
+others_owing {config} {run} {session} legal h other differ =
+    still_owing config (record_of other run)
+    ((each_of legal).rests other (λ is. let both : Some session ≡ Some other = sym h ∙ is in differ cc))
 
 next_numbered : {config : Config} {run : List Entry} {entry : Entry} → IsRun config run → Next config run entry → Numbered run
     → Numbered (entry ∷ run)
 next_numbered {config} {run} legal (did {session = session} {item = item} h is_next) numbered =
-    let none = step_opens_none (of_next config (record_of session run) item is_next) in
-    opens_nothing (λ other link. with_item run session other link item none) (last_by item session (last_link run) none) numbered
-next_numbered {config} {run} legal (heard quiet u) numbered =
-    heard_numbered (first_of (each_of legal).tells u).hearable numbered
+    let step = of_next config (record_of session run) item is_next in
+    numbered_now run (Did session item ∷ run) session item (λ other. refl) refl (others_owing legal h)
+    (λ link server login others o. opens_nothing_now (item ∷ record_of session run) link server login others (step_unanswered step) o)
+    numbered (step_opens_next run session numbered step)
+next_numbered {config} {run} legal (answered {session = session} h a) numbered =
+    let item : Item = Routed (last_link run + 1) only_server in
+    numbered_now run (Did session item ∷ run) session item (λ other. refl) refl (others_owing legal h)
+    (λ link server login others o. by_asked (asking (record_of session run)) link server login others o)
+    numbered (none_opens (last_link run + 1) item refl)
+  where
+    by_asked : (asked : Option Login) (link server : ℕ) (login : Login) (others : List Put)
+        → after_route (last_link run + 1) only_server asked ≡ Opens link server login ∷ others → link ≡ last_link run + 1
+    by_asked None link server login others e = absurd cc
+    by_asked (Some its) link server login others e = cc
+next_numbered {config} {run} legal (heard quiet unasked u) numbered =
+    heard_numbered config (rests_each run (each_of legal) quiet unasked) (first_of (each_of legal).tells u).hearable numbered
 
-numbered_of : {config : Config} {run : List Entry} → IsRun config run → Numbered run
-numbered_of starts = record { low = λ session link is. no_opening is; apart = λ one other link is also. no_opening is }
+pub numbered_of : {config : Config} {run : List Entry} → IsRun config run → Numbered run
+numbered_of starts = record {
+  low = λ session link is. no_opening is;
+  apart = λ one other link is also. no_opening is;
+  next = λ session link server login others o. absurd cc;
+}
   where
     no_opening : {A : Type 0} {link : ℕ} → Opened link [] → A
     no_opening is = absurd (by_record refl is)
@@ -156,12 +284,15 @@ numbered_of starts = record { low = λ session link is. no_opening is; apart = �
         by_record : {link : ℕ} {past : List Item} → past ≡ [] → Opened link past → ⊥
         by_record e (here o) = cc
         by_record e (below b) = cc
-numbered_of (came {run = run} legal quiet) = opens_nothing (λ session link is. is) refl (numbered_of legal)
+numbered_of (came {run = run} legal quiet) =
+    let before = numbered_of legal in record { low = before.low; apart = before.apart; next = before.next }
 numbered_of {config} (goes_on {run = run} {entry = entry} legal e) =
     next_numbered legal (of_next_entry config run entry e) (numbered_of legal)
-numbered_of (starves {run = run} {session = session} {made = made} legal h once can) =
-    opens_nothing (λ other link. with_item run session other link (Starves made) refl) (last_by (Starves made) session (last_link run) refl)
-    (numbered_of legal)
+numbered_of (starves {run = run} {session = session} {number = number} {made = made} legal h once can its) =
+    let item : Item = Starves made number in
+    numbered_now run (Did session item ∷ run) session item (λ other. refl) refl (others_owing legal h)
+    (λ link server login others o. opens_nothing_now (item ∷ record_of session run) link server login others refl o)
+    (numbered_of legal) (none_opens (last_link run + 1) item refl)
 
 pub apart : Apart
 apart config run legal one other link has also =

@@ -1,5 +1,5 @@
--- What a link of a session says: it is past its login, and begins so.
-use Rattle.std.proofs.Common.{◌≡◌, ℕ, Bool, true, false, List, [], ◌∷◌, ◌++◌, refl, sym, ap, subst, ◌∙◌, inl, inr, Option, Some, None}
+-- What a link of a session says, and what it was asked.
+use Rattle.std.proofs.Common.{◌≡◌, ℕ, Bool, true, false, List, [], ◌∷◌, refl, sym, ap, subst, ◌∙◌, inl, inr, Option, Some, None}
 use Rattle.std.specs.Prelude.{◌⊎◌, ◌==◌, if◌then◌else◌}
 use Rattle.rws_wire.specs.declared.fault.WireFault.{WireFault}
 use Rattle.rws_wire.specs.Payloads.{Beginning, first_payload}
@@ -12,23 +12,38 @@ use Rattle.rws_reply.specs.Tracking.{role, progress}
 use Rattle.rws_reply.proofs.RoleLemmas.{role_is_exact}
 use Rattle.rws_config.specs.declared.limits.TheConstants.{SERVER_PAYLOAD}
 use Rattle.rws_link.specs.declared.step.LinkCause.{LinkCause}
-use Rattle.rws_link.specs.declared.step.LinkCause.TheVariants.{BadWire, BadReply}
+use Rattle.rws_link.specs.declared.step.LinkCause.TheVariants.{BadWire, BadReply, Unasked}
 use Rattle.rws_link.specs.declared.step.LinkStep.{LinkStep}
 use Rattle.rws_link.specs.declared.step.LinkStep.TheVariants as steps
-use Rattle.rws_link.specs.Stepping.{LinkState, LogsIn, Rests, Awaits, IsLost, Exchange, Step, fed, sent, step, settled, behind_part, with_part, replied, replied_by, read_by, is_some_byte}
+use Rattle.rws_native.specs.declared.login.Login.{Login}
+use Rattle.rws_link.specs.declared.handshake.Handshake.{Handshake}
+use Rattle.rws_link.specs.declared.handshake.Reaction.{Reaction}
+use Rattle.rws_link.specs.declared.handshake.Reaction.TheVariants.{Answers, Accepted, Loses}
+use Rattle.rws_link.specs.Handshake.{due, reaction}
+use Rattle.rws_link.specs.Stepping.{LinkState, LogsIn, Rests, Awaits, IsLost, Exchange, Step, fed, is_new, logged_in, opened as opening, reacted, sent, step, settled, behind_part, with_part, replied, replied_by, read_by, is_some_byte}
 use Rattle.rws_record.specs.Item.{Item, Purpose}
-use Rattle.rws_record.specs.Item.Item.{Began, ClientBytes, LinkBytes, ClientGone, LinkLost, Comes, Takes, TakesFault, Floods, Puts, Starves}
-use Rattle.rws_record.specs.Item.Put.{Tells, Sends, Drops, Closes}
+use Rattle.rws_record.specs.Item.Item.{Accepted, TurnsAway, Began, ClientBytes, LinkReady, LinkBytes, ClientGone, LinkLost, Routed, Comes, Connects, Takes, Floods, Puts, Starves}
+use Rattle.rws_record.specs.Item.Put.{Hands, Tells, Routes, Opens, LogsInto, Sends, Drops, Closes}
 use Rattle.rws_record.specs.Values.{asked_on, linked, sent_for, kind_of}
 
-abbrev pub logs_in : LinkState → Bool
-logs_in (LogsIn handshake unread) = true
-logs_in Rests = false
-logs_in (Awaits e unread) = false
-logs_in (IsLost cause) = false
-
--- what a link says that is past its login
+-- what a link says that says something
 pub data Says : LinkState → LinkStep → Type 0 where
+  -- in its login
+  answers : {handshake : Handshake} {unread payload rest bytes : List ℕ} {number next : ℕ} {stage1 : Option (List ℕ)}
+      → first_payload SERVER_PAYLOAD (due handshake) unread ≡ Whole payload number rest
+      → reaction handshake payload number ≡ Answers bytes stage1 next → Says (LogsIn handshake unread) (steps.Send bytes)
+  enters : {handshake : Handshake} {unread payload : List ℕ} {number : ℕ}
+      → first_payload SERVER_PAYLOAD (due handshake) unread ≡ Whole payload number []
+      → reaction handshake payload number ≡ Accepted → Says (LogsIn handshake unread) steps.LoggedIn
+  hurries : {handshake : Handshake} {unread payload rest : List ℕ} {byte number : ℕ}
+      → first_payload SERVER_PAYLOAD (due handshake) unread ≡ Whole payload number (byte ∷ rest)
+      → reaction handshake payload number ≡ Accepted → Says (LogsIn handshake unread) (steps.Lost Unasked)
+  fails : {handshake : Handshake} {unread payload rest : List ℕ} {number : ℕ} {cause : LinkCause}
+      → first_payload SERVER_PAYLOAD (due handshake) unread ≡ Whole payload number rest
+      → reaction handshake payload number ≡ Loses cause → Says (LogsIn handshake unread) (steps.Lost cause)
+  breaks : {handshake : Handshake} {unread : List ℕ} {fault : WireFault}
+      → first_payload SERVER_PAYLOAD (due handshake) unread ≡ Faulty fault → Says (LogsIn handshake unread) (steps.Lost BadWire)
+  -- behind it
   part : {e : Exchange} {unread payload rest : List ℕ} {number : ℕ} {its : Role} {far : Progress}
       → first_payload SERVER_PAYLOAD e.next unread ≡ Whole payload number rest
       → role e.kind e.sofar payload ≡ Some its → progress e.kind e.sofar payload ≡ Some far
@@ -66,12 +81,35 @@ module _ (e : Exchange) (unread : List ℕ) where
       inr (by_reply payload rest number (role e.kind e.sofar payload) (progress e.kind e.sofar payload) said f refl refl a)
   by_beginning (Faulty fault) said f a = inr (subst (Says (Awaits e unread)) a (garbled f))
 
-pub says : (link : LinkState) (said : LinkStep) → logs_in link ≡ false → (step link).answer ≡ said
-    → (said ≡ steps.Idle) ⊎ Says link said
-says (LogsIn handshake unread) said n a = absurd cc
-says Rests said n a = inl (sym a)
-says (Awaits e unread) said n a = by_beginning e unread (first_payload SERVER_PAYLOAD e.next unread) said refl a
-says (IsLost cause) said n a = inr (subst (Says (IsLost cause)) a again)
+-- a link that logs in
+module _ (handshake : Handshake) (unread : List ℕ) where
+  by_end : (payload rest : List ℕ) (number : ℕ) (said : LinkStep)
+      → first_payload SERVER_PAYLOAD (due handshake) unread ≡ Whole payload number rest → reaction handshake payload number ≡ Accepted
+      → (logged_in rest).answer ≡ said → Says (LogsIn handshake unread) said
+  by_end payload [] number said f r a = subst (Says (LogsIn handshake unread)) a (enters f r)
+  by_end payload (byte ∷ rest) number said f r a = subst (Says (LogsIn handshake unread)) a (hurries f r)
+
+  by_reaction : (payload rest : List ℕ) (number : ℕ) (its : Reaction) (said : LinkStep)
+      → first_payload SERVER_PAYLOAD (due handshake) unread ≡ Whole payload number rest → reaction handshake payload number ≡ its
+      → (reacted rest its).answer ≡ said → Says (LogsIn handshake unread) said
+  by_reaction payload rest number (Answers bytes stage1 next) said f r a = subst (Says (LogsIn handshake unread)) a (answers f r)
+  by_reaction payload rest number Accepted said f r a = by_end payload rest number said f r a
+  by_reaction payload rest number (Loses cause) said f r a = subst (Says (LogsIn handshake unread)) a (fails f r)
+
+  by_greeting : (found : Beginning) (said : LinkStep) → first_payload SERVER_PAYLOAD (due handshake) unread ≡ found
+      → (read_by (LogsIn handshake unread) (λ payload next rest. reacted rest (reaction handshake payload next)) found).answer ≡ said
+      → (said ≡ steps.Idle) ⊎ Says (LogsIn handshake unread) said
+  by_greeting Nothing said f a = inl (sym a)
+  by_greeting (Whole payload number rest) said f a =
+      inr (by_reaction payload rest number (reaction handshake payload number) said f refl a)
+  by_greeting (Faulty fault) said f a = inr (subst (Says (LogsIn handshake unread)) a (breaks f))
+
+pub says : (link : LinkState) (said : LinkStep) → (step link).answer ≡ said → (said ≡ steps.Idle) ⊎ Says link said
+says (LogsIn handshake unread) said a =
+    by_greeting handshake unread (first_payload SERVER_PAYLOAD (due handshake) unread) said refl a
+says Rests said a = inl (sym a)
+says (Awaits e unread) said a = by_beginning e unread (first_payload SERVER_PAYLOAD e.next unread) said refl a
+says (IsLost cause) said a = inr (subst (Says (IsLost cause)) a again)
 
 -- what a link that says a payload, or that it is lost, is then
 
@@ -89,6 +127,11 @@ wrong_is e payload rest number its (Some far) none = absurd cc
 
 pub after_loss_is : (link : LinkState) (said : LinkStep) (cause : LinkCause) → Says link said → said ≡ steps.Lost cause
     → (step link).after ≡ IsLost cause
+after_loss_is link said cause (answers f r) is = absurd cc
+after_loss_is link said cause (enters f r) is = absurd cc
+after_loss_is link said cause (hurries f r) is = let same : Unasked ≡ cause = cc in rw f (rw r (ap IsLost same))
+after_loss_is link said cause (fails {cause = its} f r) is = let same : its ≡ cause = cc in rw f (rw r (ap IsLost same))
+after_loss_is link said cause (breaks f) is = let same : BadWire ≡ cause = cc in rw f (ap IsLost same)
 after_loss_is link said cause (part f r p) is = absurd cc
 after_loss_is link said cause (garbled f) is = let same : BadWire ≡ cause = cc in rw f (ap IsLost same)
 after_loss_is link said cause (wrong {e = e} {payload = payload} {rest = rest} {number = number} f p) is =
@@ -111,75 +154,24 @@ read_idle link on_payload Nothing not_idle a = refl
 read_idle link on_payload (Whole payload number rest) not_idle a = absurd (not_idle payload number rest a)
 read_idle link on_payload (Faulty fault) not_idle a = absurd cc
 
-pub idle_stays : (link : LinkState) → logs_in link ≡ false → (step link).answer ≡ steps.Idle → (step link).after ≡ link
-idle_stays (LogsIn handshake unread) n a = absurd cc
-idle_stays Rests n a = refl
-idle_stays (Awaits e unread) n a =
+ended_idle : (rest : List ℕ) → (logged_in rest).answer ≡ steps.Idle → ⊥
+ended_idle [] a = cc
+ended_idle (byte ∷ rest) a = cc
+
+reacted_idle : (rest : List ℕ) (its : Reaction) → (reacted rest its).answer ≡ steps.Idle → ⊥
+reacted_idle rest (Answers bytes stage1 next) a = cc
+reacted_idle rest Accepted a = ended_idle rest a
+reacted_idle rest (Loses cause) a = cc
+
+pub idle_stays : (link : LinkState) → (step link).answer ≡ steps.Idle → (step link).after ≡ link
+idle_stays (LogsIn handshake unread) a =
+    read_idle (LogsIn handshake unread) (λ payload next rest. reacted rest (reaction handshake payload next))
+    (first_payload SERVER_PAYLOAD (due handshake) unread) (λ payload number rest. reacted_idle rest (reaction handshake payload number)) a
+idle_stays Rests a = refl
+idle_stays (Awaits e unread) a =
     read_idle (Awaits e unread) (replied e) (first_payload SERVER_PAYLOAD e.next unread)
     (λ payload number rest. replied_idle e payload rest number (role e.kind e.sofar payload) (progress e.kind e.sofar payload)) a
-idle_stays (IsLost cause) n a = absurd cc
-
--- A link of a record doesn't log in
-
-settled_past : (rest : List ℕ) → logs_in (settled rest) ≡ false
-settled_past [] = refl
-settled_past (byte ∷ rest) = refl
-
-behind_past : (e : Exchange) (rest : List ℕ) (far : Progress) → logs_in (behind_part e rest far) ≡ false
-behind_past e rest More = refl
-behind_past e rest (Ends outcome) = settled_past rest
-
-replied_past : (e : Exchange) (payload rest : List ℕ) (number : ℕ) (its : Option Role) (far : Option Progress)
-    → logs_in (replied_by e payload number rest its far).after ≡ false
-replied_past e payload rest number (Some its) (Some far) = behind_past (with_part payload number e) rest far
-replied_past e payload rest number (Some its) None = refl
-replied_past e payload rest number None (Some far) = refl
-replied_past e payload rest number None None = refl
-
-read_past : (e : Exchange) (unread : List ℕ) (found : Beginning) → logs_in (read_by (Awaits e unread) (replied e) found).after ≡ false
-read_past e unread Nothing = refl
-read_past e unread (Whole payload number rest) =
-    replied_past e payload rest number (role e.kind e.sofar payload) (progress e.kind e.sofar payload)
-read_past e unread (Faulty fault) = refl
-
-step_past : (link : LinkState) → logs_in link ≡ false → logs_in (step link).after ≡ false
-step_past (LogsIn handshake unread) n = absurd cc
-step_past Rests n = refl
-step_past (Awaits e unread) n = read_past e unread (first_payload SERVER_PAYLOAD e.next unread)
-step_past (IsLost cause) n = refl
-
-fed_past : (piece : List ℕ) (link : LinkState) → logs_in link ≡ false → logs_in (fed piece link) ≡ false
-fed_past piece (LogsIn handshake unread) n = absurd cc
-fed_past [] Rests n = refl
-fed_past (byte ∷ bytes) Rests n = refl
-fed_past piece (Awaits e unread) n = refl
-fed_past piece (IsLost cause) n = refl
-
--- a link that an item may change
-one_of_two : (test : Bool) (changed link : LinkState) → logs_in changed ≡ false → logs_in link ≡ false
-    → logs_in (if test then changed else link) ≡ false
-one_of_two true changed link c l = c
-one_of_two false changed link c l = l
-
-pub never_logs_in : (link : ℕ) (past : List Item) → logs_in (linked link past) ≡ false
-never_logs_in link [] = refl
-never_logs_in link (Began opened server ∷ past) = one_of_two (opened == link) Rests _ refl (never_logs_in link past)
-never_logs_in link (LinkBytes from bytes ∷ past) =
-    let below = never_logs_in link past in one_of_two (from == link) _ _ (fed_past bytes (linked link past) below) below
-never_logs_in link (Comes from said ∷ past) =
-    let below = never_logs_in link past in one_of_two (from == link) _ _ (step_past (linked link past) below) below
-never_logs_in link (Puts (Sends to purpose) ∷ past) =
-    one_of_two (to == link) (sent (sent_for purpose) (Some (kind_of purpose))) _ refl (never_logs_in link past)
-never_logs_in link (ClientBytes bytes ∷ past) = never_logs_in link past
-never_logs_in link (ClientGone ∷ past) = never_logs_in link past
-never_logs_in link (LinkLost lost ∷ past) = never_logs_in link past
-never_logs_in link (Takes judged number ∷ past) = never_logs_in link past
-never_logs_in link (TakesFault fault ∷ past) = never_logs_in link past
-never_logs_in link (Floods bytes ∷ past) = never_logs_in link past
-never_logs_in link (Starves made ∷ past) = never_logs_in link past
-never_logs_in link (Puts (Tells number tell) ∷ past) = never_logs_in link past
-never_logs_in link (Puts (Drops given cause) ∷ past) = never_logs_in link past
-never_logs_in link (Puts (Closes reason) ∷ past) = never_logs_in link past
+idle_stays (IsLost cause) a = absurd cc
 
 -- A link that awaits a reply was asked for it
 
@@ -223,11 +215,33 @@ read_asked e unread (Whole payload number rest) asked is =
     replied_asked e payload rest unread number (role e.kind e.sofar payload) (progress e.kind e.sofar payload) asked is
 read_asked e unread (Faulty fault) asked is = λ kind k. absurd cc
 
-step_asked : (link : LinkState) (asked : Option Purpose) → logs_in link ≡ false → IsAsked link asked → IsAsked (step link).after asked
-step_asked (LogsIn handshake unread) asked n is = absurd cc
-step_asked Rests asked n is = is
-step_asked (Awaits e unread) asked n is = read_asked e unread (first_payload SERVER_PAYLOAD e.next unread) asked is
-step_asked (IsLost cause) asked n is = is
+ended_asked : (rest : List ℕ) (asked : Option Purpose) → IsAsked (logged_in rest).after asked
+ended_asked [] asked = λ kind k. absurd cc
+ended_asked (byte ∷ rest) asked = λ kind k. absurd cc
+
+reacted_asked : (rest : List ℕ) (its : Reaction) (asked : Option Purpose) → IsAsked (reacted rest its).after asked
+reacted_asked rest (Answers bytes stage1 next) asked = λ kind k. absurd cc
+reacted_asked rest Accepted asked = ended_asked rest asked
+reacted_asked rest (Loses cause) asked = λ kind k. absurd cc
+
+greeted_asked : (handshake : Handshake) (unread : List ℕ) (found : Beginning) (asked : Option Purpose)
+    → IsAsked (read_by (LogsIn handshake unread) (λ payload next rest. reacted rest (reaction handshake payload next)) found).after asked
+greeted_asked handshake unread Nothing asked = λ kind k. absurd cc
+greeted_asked handshake unread (Whole payload number rest) asked = reacted_asked rest (reaction handshake payload number) asked
+greeted_asked handshake unread (Faulty fault) asked = λ kind k. absurd cc
+
+step_asked : (link : LinkState) (asked : Option Purpose) → IsAsked link asked → IsAsked (step link).after asked
+step_asked (LogsIn handshake unread) asked is =
+    greeted_asked handshake unread (first_payload SERVER_PAYLOAD (due handshake) unread) asked
+step_asked Rests asked is = is
+step_asked (Awaits e unread) asked is = read_asked e unread (first_payload SERVER_PAYLOAD e.next unread) asked is
+step_asked (IsLost cause) asked is = is
+
+-- a link that counts as ready
+readied_asked : (link : LinkState) (test : Bool) (asked : Option Purpose) → IsAsked link asked
+    → IsAsked (if test then Rests else link) asked
+readied_asked link true asked is = λ kind k. absurd cc
+readied_asked link false asked is = is
 
 fed_asked : (piece : List ℕ) (link : LinkState) (asked : Option Purpose) → IsAsked link asked → IsAsked (fed piece link) asked
 fed_asked piece (LogsIn handshake unread) asked is = is
@@ -247,6 +261,11 @@ sent_asked : (test : Bool) (purpose : Purpose) (link : LinkState) (asked : Optio
 sent_asked true purpose link asked l = λ kind k. record { purpose = purpose; is = refl; answered = cc }
 sent_asked false purpose link asked l = l
 
+opened_asked : (test : Bool) (login : Login) (link : LinkState) (asked : Option Purpose) → IsAsked link asked
+    → IsAsked (if test then opening login else link) (if test then None else asked)
+opened_asked true login link asked l = λ kind k. absurd cc
+opened_asked false login link asked l = l
+
 was_asked : (link : ℕ) (past : List Item) → IsAsked (linked link past) (asked_on link past)
 was_asked link [] = λ kind e. absurd cc
 was_asked link (Began opened server ∷ past) =
@@ -257,15 +276,26 @@ was_asked link (LinkBytes from bytes ∷ past) =
 was_asked link (Comes from said ∷ past) =
     let below = was_asked link past in
     changed_asked (from == link) _ _ (asked_on link past)
-    (step_asked (linked link past) (asked_on link past) (never_logs_in link past) below) below
+    (step_asked (linked link past) (asked_on link past) below) below
+was_asked link (LinkReady ready ∷ past) =
+    let below = was_asked link past in
+    changed_asked (ready == link) _ _ (asked_on link past)
+    (readied_asked (linked link past) (is_new (linked link past)) (asked_on link past) below) below
+was_asked link (Puts (Opens opened server login) ∷ past) = opened_asked (opened == link) login _ (asked_on link past) (was_asked link past)
 was_asked link (Puts (Sends to purpose) ∷ past) = sent_asked (to == link) purpose _ (asked_on link past) (was_asked link past)
+was_asked link (Accepted session scramble ∷ past) = was_asked link past
+was_asked link (TurnsAway told ∷ past) = was_asked link past
 was_asked link (ClientBytes bytes ∷ past) = was_asked link past
 was_asked link (ClientGone ∷ past) = was_asked link past
 was_asked link (LinkLost lost ∷ past) = was_asked link past
 was_asked link (Takes judged number ∷ past) = was_asked link past
-was_asked link (TakesFault fault ∷ past) = was_asked link past
+was_asked link (Routed its server ∷ past) = was_asked link past
+was_asked link (Connects said ∷ past) = was_asked link past
 was_asked link (Floods bytes ∷ past) = was_asked link past
-was_asked link (Starves made ∷ past) = was_asked link past
+was_asked link (Starves made number ∷ past) = was_asked link past
+was_asked link (Puts (Hands packets) ∷ past) = was_asked link past
+was_asked link (Puts (Routes login) ∷ past) = was_asked link past
+was_asked link (Puts (LogsInto to packets) ∷ past) = was_asked link past
 was_asked link (Puts (Tells number tell) ∷ past) = was_asked link past
 was_asked link (Puts (Drops given cause) ∷ past) = was_asked link past
 was_asked link (Puts (Closes reason) ∷ past) = was_asked link past

@@ -44,7 +44,7 @@ reached (legal_came before quiet) ample = then_came (reached before ample) quiet
 reached {config} (legal_goes_on {run = run} {entry = entry} before next) ample =
     subst (λ (events : List Event). Reaches config (entry ∷ run) [] events) (sym (same_events (of_next_entry config run entry next)))
     (then_goes_on (reached before (ample_below entry run ample)) next)
-reached (legal_starves before hears once made) ample = absurd cc
+reached (legal_starves before hears once made its) ample = absurd cc
 
 -- the same entry leads to the same run
 as_entry : {config : Config} {end run : List Entry} {one other : Entry} {events : List Event} → other ≡ one

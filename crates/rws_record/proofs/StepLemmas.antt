@@ -1,42 +1,54 @@
 -- How a legal record goes on: what its newest item says of the record below it.
-use Rattle.std.proofs.Common.{◌≡◌, ℕ, suc, ◌+◌, ◌<◌, Bool, true, false, List, [], ◌∷◌, length, refl, ap, subst, arith, inl, inr, Option, Some, None}
+use Rattle.std.proofs.Common.{◌≡◌, ℕ, suc, ◌+◌, ◌<◌, Bool, true, false, List, [], ◌∷◌, length, refl, subst, arith, inl, inr, Option, Some, None}
 use Rattle.std.specs.Prelude.{◌⊎◌, Contains, if◌then◌else◌}
 use Rattle.std.specs.Option.{option_map}
 use Rattle.std.proofs.lemmas.Bool.{cases_lt, lt-ltb, le-ltb}
-use Rattle.rws_wire.specs.declared.fault.WireFault.{WireFault}
-use Rattle.rws_wire.specs.Payloads.{Beginning, first_payload}
-use Rattle.rws_wire.specs.Payloads.Beginning.{Nothing, Whole, Faulty}
+use Rattle.rws_wire.specs.declared.close_reason.CloseReason.{CloseReason}
+use Rattle.rws_wire.specs.declared.payload.Payload.{Payload}
+use Rattle.rws_native.specs.declared.login.Login.{Login}
+use Rattle.rws_front.specs.declared.step.FrontStep.{FrontStep}
+use Rattle.rws_front.specs.declared.step.FrontStep.TheVariants as fronts
+use Rattle.rws_front.specs.Connection.{step_of}
 use Rattle.rws_link.specs.declared.step.LinkStep.{LinkStep}
 use Rattle.rws_link.specs.declared.step.LinkStep.TheVariants as steps
 use Rattle.rws_link.specs.Stepping.{step}
 use Rattle.rws_config.specs.declared.config.Config.{Config}
 use Rattle.rws_record.specs.declared.command.Command.{Command}
 use Rattle.rws_record.specs.Item.{Item, Put}
-use Rattle.rws_record.specs.Item.Item.{ClientBytes, LinkBytes, ClientGone, LinkLost, Comes, Takes, TakesFault, Floods, Puts}
-use Rattle.rws_record.specs.Item.Put.{Sends}
-use Rattle.rws_record.specs.Item.Purpose.{Asks}
+use Rattle.rws_record.specs.Item.Item.{ClientBytes, LinkReady, LinkBytes, ClientGone, LinkLost, Comes, Connects, Takes, Floods, Puts}
+use Rattle.rws_record.specs.Item.Put.{Routes, Sends}
+use Rattle.rws_record.specs.Item.Purpose.{Prepares, Asks}
 use Rattle.rws_record.specs.Judging.{judged}
-use Rattle.rws_record.specs.Values.{opens, held, links, linked, kept_on, pending, sent_on, is_over}
-use Rattle.rws_record.specs.Rules.{next, next_by, owed, due, due_send, due_flood, flood_by, flood_limit, due_arrival, due_take, send_by, is_free, coming, take_by, ◌or◌}
-use Rattle.rws_record.proofs.LinkedLemmas.{Says, says, never_logs_in}
+use Rattle.rws_record.specs.Values.{asking, fronted, opens, held, links, linked, login_of, kept_on, pending, sent_on, is_over}
+use Rattle.rws_record.specs.Rules.{next, next_by, owed, due, due_route, due_prepare, due_send, due_flood, flood_by, flood_limit, due_arrival, due_take, route_by, prepare_by, send_by, is_free, coming, take_by, unless_asking, ◌or◌}
+use Rattle.rws_record.proofs.LinkedLemmas.{Says, says}
 use Rattle.rws_record.specs.Record.{IsInput}
+
+-- what comes of the client but commands
+pub data IsConnecting : FrontStep → Type 0 where
+  sends_back : {packets : List ℕ} → IsConnecting (fronts.Send packets)
+  lets_in : {login : Login} → IsConnecting (fronts.LoggedIn login)
+  ends_it : {packets : List ℕ} {reason : CloseReason} → IsConnecting (fronts.End packets reason)
 
 -- what is due of bytes that came
 pub data Due (config : Config) (past : List Item) : Item → Type 0 where
   comes : {link : ℕ} {said : LinkStep} → Contains (links past) link → (step (linked link past)).answer ≡ said
       → Says (linked link past) said
       → Due config past (Comes link said)
-  takes : {payload rest : List ℕ} {number : ℕ} → pending past ≡ None
-      → first_payload config.command_bytes 0 (held config past) ≡ Whole payload number rest
-      → Due config past (Takes (judged payload number) number)
-  takes_fault : {fault : WireFault} → pending past ≡ None
-      → first_payload config.command_bytes 0 (held config past) ≡ Faulty fault → Due config past (TakesFault fault)
+  connects : {said : FrontStep} → pending past ≡ None → (step_of config.accounts (fronted config past)).0 ≡ said
+      → IsConnecting said → Due config past (Connects said)
+  takes : {payload : Payload} → pending past ≡ None → (step_of config.accounts (fronted config past)).0 ≡ fronts.Command payload
+      → Due config past (Takes (judged payload.bytes payload.next) payload.next)
 
 -- how a record goes on by a step of its own
 pub data Step (config : Config) (past : List Item) : Item → Type 0 where
   pays : {put : Put} {others : List Put} → owed past ≡ put ∷ others → Step config past (Puts put)
+  asks : {command : Command} {login : Login} → owed past ≡ [] → is_over past ≡ false → pending past ≡ Some command
+      → kept_on past ≡ None → login_of past ≡ Some login → Step config past (Puts (Routes login))
+  prepares : {link : ℕ} → owed past ≡ [] → is_over past ≡ false → kept_on past ≡ Some link → is_free false link past ≡ true
+      → Step config past (Puts (Sends link Prepares))
   sends : {link : ℕ} {command : Command} → owed past ≡ [] → is_over past ≡ false → pending past ≡ Some command
-      → sent_on past ≡ None → kept_on past ≡ Some link → is_free link past ≡ true
+      → sent_on past ≡ None → kept_on past ≡ Some link → is_free true link past ≡ true
       → Step config past (Puts (Sends link (Asks command)))
   floods : {command : Command} → owed past ≡ [] → is_over past ≡ false → pending past ≡ Some command
       → flood_limit config < length (held config past) → Step config past (Floods (flood_limit config + 1))
@@ -56,15 +68,34 @@ neither (Some found) b e = absurd cc
 neither None b e = (refl, e)
 
 module _ (config : Config) (past : List Item) (item : Item) where
+  of_route : (command : Option Command) (kept : Option ℕ) (login : Option Login) → owed past ≡ [] → is_over past ≡ false
+      → pending past ≡ command → kept_on past ≡ kept → login_of past ≡ login → route_by command kept login ≡ Some item
+      → Step config past item
+  of_route None kept login o n p k l e = absurd cc
+  of_route (Some command) (Some link) login o n p k l e = absurd cc
+  of_route (Some command) None None o n p k l e = absurd cc
+  of_route (Some command) None (Some login) o n p k l e =
+      let same : Puts (Routes login) ≡ item = cc in subst (Step config past) same (asks o n p k l)
+
+  of_prepare : (kept : Option ℕ) → owed past ≡ [] → is_over past ≡ false → kept_on past ≡ kept
+      → prepare_by kept (λ link. is_free false link past) ≡ Some item → Step config past item
+  of_prepare None o n k e = absurd cc
+  of_prepare (Some link) o n k e = by_test (is_free false link past) refl e
+    where
+      by_test : (test : Bool) → is_free false link past ≡ test
+          → (if test then Some (Puts (Sends link Prepares)) else None) ≡ Some item → Step config past item
+      by_test true t e = let same : Puts (Sends link Prepares) ≡ item = cc in subst (Step config past) same (prepares o n k t)
+      by_test false t e = absurd cc
+
   of_send : (command : Option Command) (sent kept : Option ℕ) → owed past ≡ [] → is_over past ≡ false
       → pending past ≡ command → sent_on past ≡ sent → kept_on past ≡ kept
-      → send_by command sent kept (λ link. is_free link past) ≡ Some item → Step config past item
+      → send_by command sent kept (λ link. is_free true link past) ≡ Some item → Step config past item
   of_send None sent kept o n p s k e = absurd cc
   of_send (Some command) (Some to) kept o n p s k e = absurd cc
   of_send (Some command) None None o n p s k e = absurd cc
-  of_send (Some command) None (Some link) o n p s k e = by_test (is_free link past) refl e
+  of_send (Some command) None (Some link) o n p s k e = by_test (is_free true link past) refl e
     where
-      by_test : (test : Bool) → is_free link past ≡ test
+      by_test : (test : Bool) → is_free true link past ≡ test
           → (if test then Some (Puts (Sends link (Asks command))) else None) ≡ Some item → Step config past item
       by_test true t e = let same : Puts (Sends link (Asks command)) ≡ item = cc in subst (Step config past) same (sends o n p s k t)
       by_test false t e = absurd cc
@@ -75,7 +106,7 @@ module _ (config : Config) (past : List Item) (item : Item) where
 
   of_coming : (link : ℕ) (said : LinkStep) → Contains (links past) link → (step (linked link past)).answer ≡ said
       → coming link said ≡ Some item → Due config past item
-  of_coming link said has a e = by_says said a (says (linked link past) said (never_logs_in link past) a) e
+  of_coming link said has a e = by_says said a (says (linked link past) said a) e
     where
       by_says : (said : LinkStep) → (step (linked link past)).answer ≡ said → (said ≡ steps.Idle) ⊎ Says (linked link past) said
           → coming link said ≡ Some item → Due config past item
@@ -100,14 +131,18 @@ module _ (config : Config) (past : List Item) (item : Item) where
         | inr there ↦ of_arrivals others (λ other at. has other (suc at.0, omega arith, at.2)) there
       ]
 
-  of_take : (command : Option Command) (found : Beginning) → pending past ≡ command
-      → first_payload config.command_bytes 0 (held config past) ≡ found → take_by command found ≡ Some item
-      → Due config past item
-  of_take (Some command) found p f e = absurd cc
-  of_take None Nothing p f e = absurd cc
-  of_take None (Whole payload number rest) p f e =
-      let same : Takes (judged payload number) number ≡ item = cc in as_due same (takes p f)
-  of_take None (Faulty fault) p f e = let same : TakesFault fault ≡ item = cc in as_due same (takes_fault p f)
+  of_take : (command : Option Command) (said : FrontStep) → pending past ≡ command
+      → (step_of config.accounts (fronted config past)).0 ≡ said → take_by command said ≡ Some item → Due config past item
+  of_take (Some command) said p f e = absurd cc
+  of_take None fronts.Idle p f e = absurd cc
+  of_take None (fronts.Send packets) p f e =
+      let same : Connects (fronts.Send packets) ≡ item = cc in as_due same (connects p f sends_back)
+  of_take None (fronts.LoggedIn login) p f e =
+      let same : Connects (fronts.LoggedIn login) ≡ item = cc in as_due same (connects p f lets_in)
+  of_take None (fronts.Command payload) p f e =
+      let same : Takes (judged payload.bytes payload.next) payload.next ≡ item = cc in as_due same (takes p f)
+  of_take None (fronts.End packets reason) p f e =
+      let same : Connects (fronts.End packets reason) ≡ item = cc in as_due same (connects p f ends_it)
 
   of_flood : (command : Option Command) → owed past ≡ [] → is_over past ≡ false → pending past ≡ command
       → option_map (λ (bytes : ℕ). Floods bytes) (flood_by command (flood_limit config) (length (held config past))) ≡ Some item
@@ -125,13 +160,19 @@ module _ (config : Config) (past : List Item) (item : Item) where
 
   of_due : owed past ≡ [] → is_over past ≡ false → due config past ≡ Some item → Step config past item
   of_due o n e =
-      elim (either (due_send past) (due_flood config past or (due_arrival (links past) past or due_take config past)) item e) [
-        | inl send ↦ of_send (pending past) (sent_on past) (kept_on past) o n refl refl refl send
-        | inr e ↦ elim (either (due_flood config past) (due_arrival (links past) past or due_take config past) item e) [
-          | inl flood ↦ of_flood (pending past) o n refl flood
-          | inr e ↦ elim (either (due_arrival (links past) past) (due_take config past) item e) [
-            | inl arrive ↦ reads o n (of_arrivals (links past) (λ link has. has) arrive)
-            | inr take ↦ reads o n (of_take (pending past) (first_payload config.command_bytes 0 (held config past)) refl refl take)
+      elim (either (due_route past) (due_prepare past or (due_send past or (due_flood config past or (due_arrival (links past) past or due_take config past)))) item e) [
+        | inl route ↦ of_route (pending past) (kept_on past) (login_of past) o n refl refl refl route
+        | inr e ↦ elim (either (due_prepare past) (due_send past or (due_flood config past or (due_arrival (links past) past or due_take config past))) item e) [
+          | inl prepare ↦ of_prepare (kept_on past) o n refl prepare
+          | inr e ↦ elim (either (due_send past) (due_flood config past or (due_arrival (links past) past or due_take config past)) item e) [
+            | inl send ↦ of_send (pending past) (sent_on past) (kept_on past) o n refl refl refl send
+            | inr e ↦ elim (either (due_flood config past) (due_arrival (links past) past or due_take config past) item e) [
+              | inl flood ↦ of_flood (pending past) o n refl flood
+              | inr e ↦ elim (either (due_arrival (links past) past) (due_take config past) item e) [
+                | inl arrive ↦ reads o n (of_arrivals (links past) (λ link has. has) arrive)
+                | inr take ↦ reads o n (of_take (pending past) (step_of config.accounts (fronted config past)).0 refl refl take)
+              ]
+            ]
           ]
         ]
       ]
@@ -142,42 +183,50 @@ module _ (config : Config) (past : List Item) (item : Item) where
   of_next_by [] true o p e = absurd cc
   of_next_by [] false o p e = of_due o p e
 
+  of_asking : (login : Option Login) → unless_asking login (next_by (owed past) (is_over past) (due config past)) ≡ Some item
+      → Step config past item
+  of_asking (Some login) e = absurd cc
+  of_asking None e = of_next_by (owed past) (is_over past) refl refl e
+
   pub of_next : next config past ≡ Some item → Step config past item
-  of_next e = of_next_by (owed past) (is_over past) refl refl e
+  of_next e = of_asking (asking past) e
+
+-- a record that goes on isn't asking
+pub goes_unasking : (config : Config) (past : List Item) (item : Item) → next config past ≡ Some item → asking past ≡ None
+goes_unasking config past item e = by_asking (asking past) refl e
+  where
+    by_asking : (login : Option Login) → asking past ≡ login
+        → unless_asking login (next_by (owed past) (is_over past) (due config past)) ≡ Some item → asking past ≡ None
+    by_asking (Some login) a e = absurd cc
+    by_asking None a e = a
+
+unasking : (config : Config) (past : List Item) → next config past ≡ None → asking past ≡ None
+    → next_by (owed past) (is_over past) (due config past) ≡ None
+unasking config past e a = let e : next_by (owed past) (is_over past) (due config past) ≡ None = rw a at e in e
 
 -- a record that rests owes nothing
-pub rests_owing_nothing : (config : Config) (past : List Item) → next config past ≡ None → owed past ≡ []
-rests_owing_nothing config past e = by_owed (owed past) refl e
+pub rests_owing_nothing : (config : Config) (past : List Item) → next config past ≡ None → asking past ≡ None → owed past ≡ []
+rests_owing_nothing config past e a = by_owed (owed past) refl (unasking config past e a)
   where
     by_owed : (list : List Put) → owed past ≡ list → next_by list (is_over past) (due config past) ≡ None → owed past ≡ []
     by_owed [] o e = o
     by_owed (put ∷ others) o e = absurd cc
 
 -- and where it isn't over, nothing is due
-pub rests_with_nothing_due : (config : Config) (past : List Item) → next config past ≡ None → is_over past ≡ false
-    → due config past ≡ None
-rests_with_nothing_due config past e over = by_owed (owed past) e
+pub rests_with_nothing_due : (config : Config) (past : List Item) → next config past ≡ None → asking past ≡ None
+    → is_over past ≡ false → due config past ≡ None
+rests_with_nothing_due config past e a over = by_owed (owed past) (unasking config past e a)
   where
     by_owed : (list : List Put) → next_by list (is_over past) (due config past) ≡ None → due config past ≡ None
     by_owed [] e = let e : next_by [] false (due config past) ≡ None = rw over at e in e
     by_owed (put ∷ others) e = absurd cc
 
--- No step of a session's own opens a link.
-
-due_opens_none : {config : Config} {past : List Item} {item : Item} → Due config past item → opens item ≡ None
-due_opens_none (comes has a it) = refl
-due_opens_none (takes p f) = refl
-due_opens_none (takes_fault p f) = refl
-
-pub step_opens_none : {config : Config} {past : List Item} {item : Item} → Step config past item → opens item ≡ None
-step_opens_none (pays o) = refl
-step_opens_none (sends o n p s k c) = refl
-step_opens_none (floods o n p above) = refl
-step_opens_none (reads o n due) = due_opens_none due
+-- What comes from outside opens no link.
 
 pub input_opens_none : (item : Item) (past : List Item) → IsInput item past → opens item ≡ None
 input_opens_none (ClientBytes bytes) past input = refl
 input_opens_none ClientGone past input = refl
+input_opens_none (LinkReady link) past input = refl
 input_opens_none (LinkBytes link bytes) past input = refl
 input_opens_none (LinkLost link) past input = refl
 input_opens_none _ past input = absurd input

@@ -1,28 +1,32 @@
 -- Where memory was wanting: it is wanting once, and the session ends.
-use Rattle.std.proofs.Common.{◌≡◌, Bool, true, false, List, [], ◌∷◌, ◌++◌, refl, sym, ◌∙◌}
+use Rattle.std.proofs.Common.{◌≡◌, ℕ, Bool, true, false, List, [], ◌∷◌, ◌++◌, refl, sym, ◌∙◌, Some}
 use Rattle.rws_config.specs.declared.config.Config.{Config}
 use Rattle.rws_record.specs.Item.{Item, Put}
-use Rattle.rws_record.specs.Item.Item.{ClientBytes, LinkBytes, ClientGone, LinkLost, Puts, Starves}
-use Rattle.rws_record.specs.Item.Put.{Tells, Sends, Drops, Closes}
-use Rattle.rws_record.specs.Values.{is_over, is_starved}
+use Rattle.rws_record.specs.Item.Item.{Accepted, TurnsAway, Began, ClientBytes, LinkReady, LinkBytes, ClientGone, LinkLost, Routed, Puts, Starves}
+use Rattle.rws_record.specs.Item.Put.{Hands, Tells, Routes, Opens, LogsInto, Sends, Drops, Closes}
+use Rattle.rws_native.specs.declared.login.Login.{Login}
+use Rattle.rws_record.specs.Values.{asking, is_over, is_starved}
 use Rattle.rws_record.specs.Rules.{next, owed, follow}
-use Rattle.rws_record.specs.Record.{IsRecord, IsInput, GoesOn}
-use Rattle.rws_record.specs.Record.IsRecord.{begins, steps, hears, starves}
+use Rattle.rws_record.specs.Record.{IsBeginning, IsRecord, IsInput, GoesOn}
+use Rattle.rws_record.specs.Record.IsRecord.{begins, steps, answers, hears, starves}
 use Rattle.rws_record.specs.Record.GoesOn.{stays, then as goes_then}
+use Rattle.rws_record.proofs.OpeningLemmas.{asks_owing_nothing}
 use Rattle.rws_record.proofs.StepLemmas.{Due, Step, of_next, rests_owing_nothing}
-use Rattle.rws_record.proofs.StepLemmas.Due.{comes, takes, takes_fault}
-use Rattle.rws_record.proofs.StepLemmas.Step.{pays, sends, floods, reads}
+use Rattle.rws_record.proofs.StepLemmas.Due.{comes, connects, takes}
+use Rattle.rws_record.proofs.StepLemmas.Step.{pays, asks, prepares, sends, floods, reads}
 
 -- No step, and nothing that is heard, is want of memory
 
 due_starved : {config : Config} {past : List Item} {item : Item} → Due config past item → is_starved (item ∷ past) ≡ is_starved past
 due_starved (comes has a it) = refl
+due_starved (connects p f c) = refl
 due_starved (takes p f) = refl
-due_starved (takes_fault p f) = refl
 
 pub step_starved : {config : Config} {past : List Item} {item : Item} → Step config past item
     → is_starved (item ∷ past) ≡ is_starved past
 step_starved (pays o) = refl
+step_starved (asks o n p k l) = refl
+step_starved (prepares o n k c) = refl
 step_starved (sends o n p s k c) = refl
 step_starved (floods o n p above) = refl
 step_starved (reads o n due) = due_starved due
@@ -30,6 +34,7 @@ step_starved (reads o n due) = due_starved due
 pub input_starved : (past : List Item) (item : Item) → IsInput item past → is_starved (item ∷ past) ≡ is_starved past
 input_starved past (ClientBytes bytes) input = refl
 input_starved past ClientGone input = refl
+input_starved past (LinkReady link) input = refl
 input_starved past (LinkBytes link bytes) input = refl
 input_starved past (LinkLost link) input = refl
 input_starved past _ input = absurd input
@@ -48,7 +53,11 @@ closes_soon (_ ∷ others) = closes_soon others
 
 pub closes_behind : (first others : List Put) → closes_soon others ≡ true → closes_soon (first ++ others) ≡ true
 closes_behind [] others soon = soon
+closes_behind (Hands packets ∷ rest) others soon = closes_behind rest others soon
 closes_behind (Tells number tell ∷ rest) others soon = closes_behind rest others soon
+closes_behind (Routes login ∷ rest) others soon = closes_behind rest others soon
+closes_behind (Opens link server login ∷ rest) others soon = closes_behind rest others soon
+closes_behind (LogsInto link packets ∷ rest) others soon = closes_behind rest others soon
 closes_behind (Sends link purpose ∷ rest) others soon = closes_behind rest others soon
 closes_behind (Drops link cause ∷ rest) others soon = closes_behind rest others soon
 closes_behind (Closes reason ∷ rest) others soon = refl
@@ -62,36 +71,59 @@ goes_no_further o n (ended over) = absurd cc
 goes_no_further {past = past} o n (ends soon) = absurd (let e : false ≡ true = rw o at soon in cc)
 
 pays_ending : {past : List Item} (put : Put) {others : List Put} → owed past ≡ put ∷ others → Ending past → Ending (Puts put ∷ past)
+pays_ending (Hands packets) o (ended over) = ended over
 pays_ending (Tells number tell) o (ended over) = ended over
+pays_ending (Routes login) o (ended over) = ended over
+pays_ending (Opens link server login) o (ended over) = ended over
+pays_ending (LogsInto link packets) o (ended over) = ended over
 pays_ending (Sends to purpose) o (ended over) = ended over
 pays_ending (Drops link cause) o (ended over) = ended over
 pays_ending (Closes reason) o (ended over) = ended refl
 pays_ending (Closes reason) o (ends soon) = ended refl
+pays_ending (Hands packets) o (ends soon) = ends (rw o (rw o at soon))
 pays_ending (Tells number tell) o (ends soon) = ends (rw o (rw o at soon))
+pays_ending (Routes login) o (ends soon) = ends (rw o (rw o at soon))
+pays_ending (Opens link server login) o (ends soon) = ends (rw o (rw o at soon))
+pays_ending (LogsInto link packets) o (ends soon) = ends (rw o (rw o at soon))
 pays_ending (Sends to purpose) o (ends soon) = ends (rw o (rw o at soon))
 pays_ending {past} (Drops link cause) {others} o (ends soon) =
     ends (rw o (closes_behind (follow (Drops link cause) past) others (rw o at soon)))
 
 step_ending : {config : Config} {past : List Item} {item : Item} → Step config past item → Ending past → Ending (item ∷ past)
 step_ending (pays {put = put} o) ending = pays_ending put o ending
+step_ending (asks o n p k l) ending = goes_no_further o n ending
+step_ending (prepares o n k c) ending = goes_no_further o n ending
 step_ending (sends o n p s k c) ending = goes_no_further o n ending
 step_ending (floods o n p above) ending = goes_no_further o n ending
 step_ending (reads o n due) ending = goes_no_further o n ending
 
-want_ending : (past : List Item) (made over : Bool) → is_over past ≡ over → Ending (Starves made ∷ past)
-want_ending past made true over = ended over
-want_ending past true false over = ends (rw over refl)
-want_ending past false false over = ends (rw over refl)
+want_ending : (past : List Item) (made over : Bool) (number : ℕ) → is_over past ≡ over → Ending (Starves made number ∷ past)
+want_ending past made true number over = ended over
+want_ending past true false number over = ends (rw over refl)
+want_ending past false false number over = ends (rw over refl)
+
+begins_starved : {A : Type 0} (item : Item) → IsBeginning item → is_starved (item ∷ []) ≡ true → A
+begins_starved (Accepted session scramble) its starved = absurd cc
+begins_starved (TurnsAway told) its starved = absurd cc
+begins_starved (Began link server) its starved = absurd cc
+begins_starved _ its starved = absurd its
+
+answer_ending : {config : Config} {past : List Item} {login : Login} {link server : ℕ} → IsRecord config past
+    → asking past ≡ Some login → Ending past → Ending (Routed link server ∷ past)
+answer_ending legal a (ended over) = ended over
+answer_ending legal a (ends soon) = absurd (let e : false ≡ true = rw (asks_owing_nothing legal a) at soon in cc)
 
 starved_ends : {config : Config} {past : List Item} → IsRecord config past → is_starved past ≡ true → Ending past
-starved_ends (begins link server) starved = absurd cc
+starved_ends (begins {item = item} its) starved = begins_starved item its starved
 starved_ends {config} (steps {past = past} {item = item} legal next) starved =
     let step = of_next config past item next in
     step_ending step (starved_ends legal (sym (step_starved step) ∙ starved))
-starved_ends {config} (hears {past = past} {item = item} legal rests n input) starved =
-    goes_no_further (rests_owing_nothing config past rests) n
+starved_ends (answers {past = past} legal asked) starved = answer_ending legal asked (starved_ends legal starved)
+starved_ends {config} (hears {past = past} {item = item} legal rests a n input) starved =
+    goes_no_further (rests_owing_nothing config past rests a) n
     (starved_ends legal (sym (input_starved past item input) ∙ starved))
-starved_ends (starves {past = past} {made = made} legal once can) starved = want_ending past made (is_over past) refl
+starved_ends (starves {past = past} {made = made} {number = number} legal once can its) starved =
+    want_ending past made (is_over past) number refl
 
 -- to a session that goes on and owes nothing memory was never wanting
 pub unstarved : {config : Config} {past : List Item} → IsRecord config past → owed past ≡ [] → is_over past ≡ false

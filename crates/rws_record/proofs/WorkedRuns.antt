@@ -22,7 +22,7 @@ use Rattle.rws_board.specs.declared.event.Event.TheVariants.{Begin, ClientBytes,
 use Rattle.rws_config.specs.BuiltIn.{built_in}
 use Rattle.rws_record.specs.Item.Item.{Starves}
 use Rattle.rws_record.specs.Values.{is_starved}
-use Rattle.rws_record.specs.Record.{CanBeMade}
+use Rattle.rws_record.specs.Record.{CanBeMade, want_number}
 use Rattle.rws_record.specs.Run.{Entry, IsRun, IsRunOver, hearer, record_of, next_entry, events_of, done_in}
 use Rattle.rws_record.specs.Run.Entry.{Came, Did}
 use Rattle.rws_record.specs.Run.IsRun.{starts, came, goes_on, starves}
@@ -101,12 +101,12 @@ legal_over fuel (event ∷ events) run legal settles =
     (legal_over fuel events now now_legal parts.1)
 
 -- the legal run over these events, under the built-in settings, does this
-record Does (events : List Event) (actions : List Action) : Type 0 where
+pub record Does (events : List Event) (actions : List Action) : Type 0 where
   run : List Entry
   legal : IsRunOver built_in events run
   does : done_in run ≡ actions
 
-does_in : (fuel : ℕ) {events : List Event} {actions : List Action} → is_settled fuel events [] ≡ true
+pub does_in : (fuel : ℕ) {events : List Event} {actions : List Action} → is_settled fuel events [] ≡ true
     → done_in (over fuel events []) ≡ actions → Does events actions
 does_in fuel {events} settles does =
     record { run = over fuel events []; legal = legal_over fuel events [] starts settles; does = does }
@@ -116,8 +116,12 @@ does_in fuel {events} settles does =
 abbrev until : ℕ → List Event → Event → List Entry
 until steps before event = settled steps (Came event ∷ over 16 before [])
 
+abbrev starved : ℕ → ℕ → Bool → List Event → Event → List Entry
+starved steps session made before event =
+    Did session (Starves made (want_number built_in (record_of session (until steps before event)))) ∷ until steps before event
+
 abbrev wanting : ℕ → ℕ → Bool → List Event → Event → List Entry
-wanting steps session made before event = settled 16 (Did session (Starves made) ∷ until steps before event)
+wanting steps session made before event = settled 16 (starved steps session made before event)
 
 module _ (steps session : ℕ) (made : Bool) (before : List Event) (event : Event) (after : List Event) (actions : List Action)
     (settles : is_settled 16 before [] ≡ true) (hears : hearer (until steps before event) ≡ Some session)
@@ -130,12 +134,12 @@ module _ (steps session : ℕ) (made : Bool) (before : List Event) (event : Even
 
   now_legal : IsRun built_in (wanting steps session made before event)
   now_legal =
-      settled_legal 16 (Did session (Starves made) ∷ until steps before event)
-      (starves (settled_legal steps (Came event ∷ over 16 before []) (came start.legal start.rests)) hears once can)
+      settled_legal 16 (starved steps session made before event)
+      (starves (settled_legal steps (Came event ∷ over 16 before []) (came start.legal start.rests)) hears once can refl)
 
   heard : events_of (wanting steps session made before event) ≡ before ++ event ∷ []
   heard =
-      settled_events 16 (Did session (Starves made) ∷ until steps before event)
+      settled_events 16 (starved steps session made before event)
       ∙ settled_events steps (Came event ∷ over 16 before [])
       ∙ ap (λ (list : List Event). list ++ event ∷ []) start.heard
 
@@ -152,20 +156,20 @@ module _ (steps session : ℕ) (made : Bool) (before : List Event) (event : Even
 abbrev digit : ℕ → ℕ
 digit code = if nat_lt code 58 then code - 48 else code - 87
 
-abbrev hex : List ℕ → List ℕ
+abbrev pub hex : List ℕ → List ℕ
 hex (high ∷ low ∷ digits) = (16 * digit high + digit low) ∷ hex digits
 hex _ = []
 
-abbrev from_client : ℕ → List ℕ → Event
+abbrev pub from_client : ℕ → List ℕ → Event
 from_client session digits = ClientBytes session (hex digits)
 
-abbrev on_link : ℕ → List ℕ → Event
+abbrev pub on_link : ℕ → List ℕ → Event
 on_link link digits = LinkBytes link (hex digits)
 
-abbrev to_client : ℕ → List ℕ → Action
+abbrev pub to_client : ℕ → List ℕ → Action
 to_client session digits = ToClient session (hex digits)
 
-abbrev to_link : ℕ → List ℕ → Action
+abbrev pub to_link : ℕ → List ℕ → Action
 to_link link digits = ToLink link (hex digits)
 
 -- The runs

@@ -3,14 +3,17 @@
 use Rattle.std.specs.Prelude.{ℕ, Bool, List, Option}
 use Rattle.rws_wire.specs.declared.close_reason.CloseReason.{CloseReason}
 use Rattle.rws_wire.specs.declared.drop_cause.DropCause.{DropCause}
-use Rattle.rws_wire.specs.declared.fault.WireFault.{WireFault}
 use Rattle.rws_reply.specs.declared.kind.Outcome.{Outcome}
+use Rattle.rws_native.specs.declared.login.Login.{Login}
+use Rattle.rws_front.specs.declared.step.FrontStep.{FrontStep}
 use Rattle.rws_link.specs.declared.step.LinkStep.{LinkStep}
 use Rattle.rws_record.specs.declared.command.Command.{Command}
 use Rattle.rws_record.specs.declared.proxy_error.ProxyError.{ProxyError}
 
 -- why something goes to a server that it is to answer
 pub data Purpose : Type 0 where
+  -- the server is to tell the GTIDs of commits from now on: the first command on a link, behind its login
+  Prepares : Purpose
   -- the client asked for it
   Asks : Command → Purpose
 
@@ -26,9 +29,17 @@ pub data Tell : Type 0 where
 
 -- what the session gives out
 pub data Put : Type 0 where
+  -- to the client, packets as its front has made them: those of the login, or the error at which its packets end
+  Hands : (packets : List ℕ) → Put
   -- to the client, in packets from this number on
   Tells : (number : ℕ) → Tell → Put
-  -- to a server
+  -- the worker is asked where the pending command is to go; a link for it logs in so
+  Routes : Login → Put
+  -- a link to this server is opened, on which the client's login is repeated
+  Opens : (link server : ℕ) → Login → Put
+  -- to a server, packets of the login as the link has made them
+  LogsInto : (link : ℕ) → (packets : List ℕ) → Put
+  -- to a server, a command
   Sends : (link : ℕ) → Purpose → Put
   -- a link is given up
   Drops : (link : ℕ) → DropCause → Put
@@ -43,20 +54,31 @@ pub data Judged : Type 0 where
   Serves : Command → Judged
 
 pub data Item : Type 0 where
-  -- from outside: a session begins with a link that is ready; bytes come; the client or a link is gone
+  -- from outside: a client connects, and is to be greeted with this scramble; it is turned away, since there are as many
+  -- sessions as may be, and is told so or not; a session begins in the command phase, with a link that is ready
+  Accepted : (session : ℕ) → (scramble : List ℕ) → Item
+  TurnsAway : (told : Bool) → Item
   Began : (link server : ℕ) → Item
+  -- bytes come; a link that is opening counts as ready; the client or a link is gone
   ClientBytes : List ℕ → Item
+  LinkReady : (link : ℕ) → Item
   LinkBytes : (link : ℕ) → List ℕ → Item
   ClientGone : Item
   LinkLost : (link : ℕ) → Item
-  -- what came of a link: a payload of the reply that it owes, as the server sent it, or that it is lost
+  -- the worker's answer: the pending command is to go to this server, on the link of this number if it is a new one
+  Routed : (link server : ℕ) → Item
+  -- what came of a link: packets of its login are to be sent, it is logged in, a payload of the reply that it owes, as the
+  -- server sent it, or that it is lost
   Comes : (link : ℕ) → LinkStep → Item
-  -- the session's own steps: it takes up the client's next command, whose reply begins with this number, or the fault of
-  -- the client's packets; it notes that the client sent on, behind a command that isn't answered, until so many bytes were
-  -- held, which is one more than it may; and it gives something out
+  -- what came of the client but for its commands: packets of its login are to be sent, it is logged in, or its packets can't
+  -- be read on
+  Connects : FrontStep → Item
+  -- the session's own steps: it takes up the client's next command, whose reply begins with this number; it notes that the
+  -- client sent on, behind a command that isn't answered, until so many bytes were held, which is one more than it may; and it
+  -- gives something out
   Takes : Judged → (number : ℕ) → Item
-  TakesFault : WireFault → Item
   Floods : (held : ℕ) → Item
   Puts : Put → Item
-  -- memory was wanting, in place of what would have come next; or for the session itself, which then wasn't made
-  Starves : (made : Bool) → Item
+  -- memory was wanting, in place of what would have come next, where an error to the client has this number; or it was wanting
+  -- for the session itself, which then wasn't made
+  Starves : (made : Bool) → (number : ℕ) → Item

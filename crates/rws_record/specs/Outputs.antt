@@ -9,7 +9,7 @@ use Rattle.rws_record.specs.Errors.{error_of}
 use Rattle.rws_record.specs.Item.{Item, Tell, Put}
 use Rattle.rws_record.specs.Item.Item.{Puts}
 use Rattle.rws_record.specs.Item.Tell.{Passes, Owns, Refuses}
-use Rattle.rws_record.specs.Item.Put.{Tells, Sends, Drops, Closes}
+use Rattle.rws_record.specs.Item.Put.{Hands, Tells, Routes, Opens, LogsInto, Sends, Drops, Closes}
 use Rattle.rws_record.specs.Values.{sent_for}
 
 -- the OK that the proxy itself answers: nothing affected, no insert id, no warnings
@@ -24,6 +24,10 @@ payload_of (Refuses error) = err_bytes (error_of error)
 
 -- what is done outside for it, in a session of this number and from the record below it
 abbrev pub outs_for : ℕ → Put → List Item → List Action
+outs_for session (Hands packets) past = actions.ToClient session packets ∷ []
+outs_for session (Routes login) past = []
+outs_for session (Opens link server login) past = actions.Open link server session ∷ []
+outs_for session (LogsInto link packets) past = actions.ToLink link packets ∷ []
 outs_for session (Tells number tell) past = actions.ToClient session (spelling number (payload_of tell)) ∷ []
 outs_for session (Sends link purpose) past = actions.ToLink link (spelling 0 (sent_for purpose)) ∷ []
 outs_for session (Drops link cause) past = actions.Drop link cause ∷ []

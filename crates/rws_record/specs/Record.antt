@@ -2,14 +2,26 @@
 use Rattle.std.specs.Prelude.{◌≡◌, ℕ, Bool, true, false, List, [], ◌∷◌, Some, None, Contains}
 use Rattle.rws_config.specs.declared.config.Config.{Config}
 use Rattle.rws_record.specs.Item.{Item}
-use Rattle.rws_record.specs.Item.Item.{Began, ClientBytes, LinkBytes, ClientGone, LinkLost, Starves}
-use Rattle.rws_record.specs.Values.{links, is_over, is_starved}
+use Rattle.rws_record.specs.Item.Item.{Accepted, TurnsAway, Began, ClientBytes, LinkReady, LinkBytes, ClientGone, LinkLost, Routed, Starves}
+use Rattle.rws_native.specs.declared.login.Login.{Login}
+use Rattle.rws_front.specs.Connection.{error_number}
+use Rattle.rws_link.specs.Stepping.{is_new}
+use Rattle.rws_record.specs.Values.{fronted, links, linked, asking, is_over, is_starved}
 use Rattle.rws_record.specs.Rules.{next}
 
--- what may come from outside: from the client, and from a link that the session has
+-- how a session may begin
+abbrev pub IsBeginning : Item → Type 0
+IsBeginning (Accepted session scramble) = Unit {0}
+IsBeginning (TurnsAway told) = Unit {0}
+IsBeginning (Began link server) = Unit {0}
+IsBeginning _ = ⊥
+
+-- What may come from outside: from the client, and from a link that the session has; a link counts as ready of which no byte
+-- came.
 abbrev pub IsInput : Item → List Item → Type 0
 IsInput (ClientBytes bytes) past = Unit {0}
 IsInput ClientGone past = Unit {0}
+IsInput (LinkReady link) past = Contains (links past) link × (is_new (linked link past) ≡ true)
 IsInput (LinkBytes link bytes) past = Contains (links past) link
 IsInput (LinkLost link) past = Contains (links past) link
 IsInput _ past = ⊥
@@ -17,19 +29,25 @@ IsInput _ past = ⊥
 -- a session that couldn't be made has only begun
 abbrev pub CanBeMade : (made : Bool) → List Item → Type 0
 CanBeMade true past = Unit {0}
-CanBeMade false (Began link server ∷ past) = Unit {0}
+CanBeMade false (item ∷ []) = IsBeginning item
 CanBeMade false _ = ⊥
 
--- A record begins with a session, goes on by its own steps, and hears of the outside when it rests and isn't over. Memory
--- may be wanting at any place, but once.
+-- the number of an error that tells the client that memory was wanting
+abbrev pub want_number : Config → List Item → ℕ
+want_number config past = error_number (fronted config past)
+
+-- A record begins with a session, goes on by its own steps and by the worker's answers, and hears of the outside when it rests
+-- and isn't over. Memory may be wanting at any place, but once.
 pub data IsRecord (config : Config) : List Item → Type 0 where
-  begins : (link server : ℕ) → IsRecord config (Began link server ∷ [])
+  begins : {item : Item} → IsBeginning item → IsRecord config (item ∷ [])
   steps : {past : List Item} {item : Item} → IsRecord config past → next config past ≡ Some item
       → IsRecord config (item ∷ past)
-  hears : {past : List Item} {item : Item} → IsRecord config past → next config past ≡ None → is_over past ≡ false
-      → IsInput item past → IsRecord config (item ∷ past)
-  starves : {past : List Item} {made : Bool} → IsRecord config past → is_starved past ≡ false → CanBeMade made past
-      → IsRecord config (Starves made ∷ past)
+  answers : {past : List Item} {login : Login} {link server : ℕ} → IsRecord config past → asking past ≡ Some login
+      → IsRecord config (Routed link server ∷ past)
+  hears : {past : List Item} {item : Item} → IsRecord config past → next config past ≡ None → asking past ≡ None
+      → is_over past ≡ false → IsInput item past → IsRecord config (item ∷ past)
+  starves : {past : List Item} {made : Bool} {number : ℕ} → IsRecord config past → is_starved past ≡ false
+      → CanBeMade made past → number ≡ want_number config past → IsRecord config (Starves made number ∷ past)
 
 -- the second record is the first after some of its own steps
 pub data GoesOn (config : Config) (past : List Item) : List Item → Type 0 where

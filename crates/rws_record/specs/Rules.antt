@@ -4,18 +4,19 @@
 -- Rules come in two levels: a function of plain values, and one line that fills in the values of a record.
 use Rattle.std.specs.Prelude.{ℕ, ◌+◌, nat_lt, Bool, true, false, not, ◌&&◌, ◌==◌, List, [], ◌∷◌, ◌++◌, length, map, drop, Option, Some, None, if◌then◌else◌}
 use Rattle.std.specs.Option.{option_map}
-use Rattle.rws_wire.specs.Payloads.{Beginning, first_payload}
-use Rattle.rws_wire.specs.Payloads.Beginning.{Nothing, Whole, Faulty}
-use Rattle.rws_wire.specs.declared.fault.WireFault.{WireFault}
-use Rattle.rws_wire.specs.declared.fault.WireFault.TheVariants as faults
 use Rattle.rws_wire.specs.declared.close_reason.CloseReason.TheVariants as reasons
 use Rattle.rws_wire.specs.declared.drop_cause.DropCause.{DropCause}
 use Rattle.rws_wire.specs.declared.drop_cause.DropCause.TheVariants as causes
 use Rattle.rws_wire.specs.declared.drop_cause.DropCause.TheVariants.{Unasked, End, Kept, Replay}
+use Rattle.rws_native.specs.declared.login.Login.{Login}
+use Rattle.rws_reply.specs.declared.kind.Outcome.TheVariants.{Done, Failed}
 use Rattle.rws_reply.specs.declared.kind.Progress.{Progress}
 use Rattle.rws_reply.specs.declared.kind.Progress.TheVariants.{More, Whole as Ends}
 use Rattle.rws_reply.specs.declared.role.Role.{Role}
 use Rattle.rws_reply.specs.ClientForm.{client_form}
+use Rattle.rws_front.specs.declared.step.FrontStep.{FrontStep}
+use Rattle.rws_front.specs.declared.step.FrontStep.TheVariants as fronts
+use Rattle.rws_front.specs.Connection.{step_of}
 use Rattle.rws_link.specs.declared.step.LinkCause.{LinkCause}
 use Rattle.rws_link.specs.declared.step.LinkCause.TheVariants as losses
 use Rattle.rws_link.specs.declared.step.LinkStep.{LinkStep}
@@ -24,15 +25,15 @@ use Rattle.rws_link.specs.Stepping.{LinkState, LogsIn, Rests, Awaits, IsLost, st
 use Rattle.rws_config.specs.declared.config.Config.{Config}
 use Rattle.rws_config.specs.declared.limits.TheConstants.{FLOOD_ROOM}
 use Rattle.rws_record.specs.declared.command.Command.{Command}
-use Rattle.rws_record.specs.declared.proxy_error.ProxyError.TheVariants.{PacketsOutOfOrder, CommandTooLarge, OutOfMemory}
+use Rattle.rws_record.specs.declared.proxy_error.ProxyError.TheVariants.{TooManyConnections, CommandTooLarge, OutOfMemory}
 use Rattle.rws_record.specs.Item.{Item, Purpose, Judged, Put}
-use Rattle.rws_record.specs.Item.Item.{Began, ClientBytes, LinkBytes, ClientGone, LinkLost, Comes, Takes, TakesFault, Floods, Puts, Starves}
+use Rattle.rws_record.specs.Item.Item.{Accepted, TurnsAway, Began, ClientBytes, LinkReady, LinkBytes, ClientGone, LinkLost, Routed, Comes, Connects, Takes, Floods, Puts, Starves}
 use Rattle.rws_record.specs.Item.Judged.{Leaves, Pings, IsRefused, Serves}
-use Rattle.rws_record.specs.Item.Put.{Tells, Sends, Drops, Closes}
+use Rattle.rws_record.specs.Item.Put.{Hands, Tells, Routes, Opens, LogsInto, Sends, Drops, Closes}
 use Rattle.rws_record.specs.Item.Tell.{Passes, Owns, Refuses}
-use Rattle.rws_record.specs.Item.Purpose.{Asks}
+use Rattle.rws_record.specs.Item.Purpose.{Prepares, Asks}
 use Rattle.rws_record.specs.Judging.{judged}
-use Rattle.rws_record.specs.Values.{held, links, contains, kept_on, linked, asked_on, prepared_handle, pending, sent_on, told_from, reply_number, is_over}
+use Rattle.rws_record.specs.Values.{fronted, held, login_of, links, contains, kept_on, linked, is_up, asked_on, prepared_handle, pending, sent_on, told_from, reply_number, asking, is_over}
 
 abbrev pub is_link : ℕ → Option ℕ → Bool
 is_link link (Some other) = other == link
@@ -81,10 +82,24 @@ has_transaction = false
 abbrev pub is_replayable : Bool
 is_replayable = false
 
+-- the link on which the pending command was sent, or is to be sent
+abbrev pub assigned_by : Option Command → (sent kept : Option ℕ) → Option ℕ
+assigned_by None sent kept = None
+assigned_by (Some command) None kept = kept
+assigned_by (Some command) (Some link) kept = Some link
+
+-- Commands aren't routed yet, so nothing sends one elsewhere that waits for its link: it counts as sent.
+abbrev pub counts_as_sent : Bool
+counts_as_sent = true
+
+abbrev pub is_out_on : ℕ → (sent assigned : Option ℕ) → Bool
+is_out_on link sent assigned = if counts_as_sent then is_link link assigned else is_link link sent
+
 abbrev pub loss_of : ℕ → List Item → Loss
 loss_of link past =
-    loss_by (is_link link (told_from past)) (is_link link (sent_on past)) sends_again (is_link link (kept_on past))
-    has_transaction is_replayable (is_link link (sent_on past))
+    let assigned = assigned_by (pending past) (sent_on past) (kept_on past) in
+    loss_by (is_link link (told_from past)) (is_out_on link (sent_on past) assigned) sends_again (is_link link (kept_on past))
+    has_transaction is_replayable (is_link link assigned)
 
 -- Replays and other routes aren't built yet, and nothing leads to them: no transaction counts as open, and a session is
 -- kept on the link that it sends on.
@@ -123,13 +138,25 @@ after_command Pings number = Tells number (Owns own_status) ∷ []
 after_command (IsRefused error) number = Tells number (Refuses error) ∷ []
 after_command (Serves command) number = []
 
--- The client's packets can't be read on from here. The client is told in a packet of number 1.
-abbrev pub after_fault : WireFault → List Put
-after_fault (faults.OutOfOrder want got) =
-    Tells 1 (Refuses PacketsOutOfOrder) ∷ Closes (reasons.OutOfOrder want got) ∷ []
-after_fault (faults.TooLarge length) = Tells 1 (Refuses CommandTooLarge) ∷ Closes (reasons.TooLarge length) ∷ []
+-- What came of the client but for its commands: where its packets can't be read on, or it isn't let in, the session is closed.
+abbrev pub after_connecting : FrontStep → List Put
+after_connecting (fronts.Send packets) = Hands packets ∷ []
+after_connecting (fronts.LoggedIn login) = []
+after_connecting (fronts.End packets reason) = Hands packets ∷ Closes reason ∷ []
+after_connecting (fronts.Command payload) = []
+after_connecting fronts.Idle = []
 
--- The client sent on too far behind a command that isn't answered. It too is told in a packet of number 1.
+-- A client is turned away: one that connected is told so, in a packet of number 0, in place of the greeting.
+abbrev pub after_turning_away : (told : Bool) → List Put
+after_turning_away true = Tells 0 (Refuses TooManyConnections) ∷ Closes reasons.Connections ∷ []
+after_turning_away false = Closes reasons.Connections ∷ []
+
+-- a link is opened for the session that asked
+abbrev pub after_route : (link server : ℕ) → Option Login → List Put
+after_route link server (Some login) = Opens link server login ∷ []
+after_route link server None = []
+
+-- The client sent on too far behind a command that isn't answered. It is told in a packet of number 1.
 abbrev pub after_flood : ℕ → List Put
 after_flood held = Tells 1 (Refuses CommandTooLarge) ∷ Closes (reasons.Flooded held) ∷ []
 
@@ -148,8 +175,15 @@ after_answer link command form (Ends outcome) behind number =
 abbrev pub form_of : Role → List ℕ → List ℕ
 form_of role payload = client_form role prepared_handle payload
 
+-- A link is prepared, unless its server refuses that; behind the last payload a further byte costs the link here too.
+abbrev pub after_preparing : ℕ → Progress → (behind : Bool) → List Put
+after_preparing link More behind = []
+after_preparing link (Ends (Done status)) behind = unasked link behind
+after_preparing link (Ends (Failed code)) behind = Drops link (causes.Login code) ∷ []
+
 abbrev pub after_part : ℕ → Option Purpose → (form : List ℕ) → Progress → (behind : Bool) → (number : ℕ) → List Put
 after_part link (Some (Asks command)) form progress behind number = after_answer link command form progress behind number
+after_part link (Some Prepares) form progress behind number = after_preparing link progress behind
 after_part link None form progress behind number = []
 
 -- why a link that is lost is given up
@@ -161,34 +195,38 @@ drop_cause losses.Greeting = causes.Greeting
 drop_cause losses.Plugin = causes.Plugin
 drop_cause (losses.Login code) = causes.Login code
 
--- What came of a link. Each link is past its login, so nothing is to be sent for that.
+-- what came of a link
 abbrev pub after_coming : ℕ → LinkStep → Option Purpose → (number : ℕ) → List Put
 after_coming link (steps.Part payload role progress next behind) purpose number =
     after_part link purpose (form_of role payload) progress behind number
 after_coming link (steps.Lost cause) purpose number = Drops link (drop_cause cause) ∷ []
-after_coming link (steps.Send bytes) purpose number = []
+after_coming link (steps.Send packets) purpose number = LogsInto link packets ∷ []
 after_coming link steps.LoggedIn purpose number = []
 after_coming link steps.Idle purpose number = []
 
--- Where memory is wanting the session is closed, and its client told before in a packet of number 1, if the session was
+-- Where memory is wanting the session is closed, and its client told before, in a packet of this number, if the session was
 -- made. One that is over gives up the links that it has left.
-abbrev pub after_want : (over made : Bool) → (farewells : List Put) → List Put
-after_want true made farewells = farewells
-after_want false true farewells = Tells 1 (Refuses OutOfMemory) ∷ Closes reasons.Memory ∷ []
-after_want false false farewells = Closes reasons.Memory ∷ []
+abbrev pub after_want : (over made : Bool) → (number : ℕ) → (farewells : List Put) → List Put
+after_want true made number farewells = farewells
+after_want false true number farewells = Tells number (Refuses OutOfMemory) ∷ Closes reasons.Memory ∷ []
+after_want false false number farewells = Closes reasons.Memory ∷ []
 
 -- the answer to what came, was taken up or was wanting, from the record before it
 abbrev pub response : Item → List Item → List Put
+response (Accepted session scramble) past = []
+response (TurnsAway told) past = after_turning_away told
 response (Began link server) past = []
 response (ClientBytes bytes) past = []
+response (LinkReady link) past = []
 response (LinkBytes link bytes) past = []
 response ClientGone past = farewells past
 response (LinkLost link) past = after_loss link past
 response (Comes link said) past = after_coming link said (asked_on link past) (reply_number past)
+response (Routed link server) past = after_route link server (asking past)
+response (Connects said) past = after_connecting said
 response (Takes judged number) past = after_command judged number
-response (TakesFault fault) past = after_fault fault
 response (Floods held) past = after_flood held
-response (Starves made) past = after_want (is_over past) made (farewells past)
+response (Starves made number) past = after_want (is_over past) made number (farewells past)
 response (Puts put) past = []
 
 -- what follows directly on something that was given out
@@ -210,18 +248,40 @@ is_ready Rests = true
 is_ready (Awaits e unread) = false
 is_ready (IsLost cause) = false
 
--- the session has the link, and may send a command on it
-abbrev pub is_free : ℕ → List Item → Bool
-is_free link past = contains link (links past) && is_ready (linked link past)
+abbrev pub is_same : (wanted is : Bool) → Bool
+is_same true is = is
+is_same false is = not is
 
--- the pending command goes on the link that the session is kept on as soon as that is free, where it wasn't sent yet
+-- the session has the link, and may send on it; commands of the client go on one that is prepared
+abbrev pub is_free : (prepared : Bool) → ℕ → List Item → Bool
+is_free prepared link past =
+    contains link (links past) && (is_same prepared (is_up link past) && is_ready (linked link past))
+
+-- where a command is pending and no link is there, the worker is asked for one, on which the client's login is repeated
+abbrev pub route_by : Option Command → (kept : Option ℕ) → Option Login → Option Item
+route_by (Some command) None (Some login) = Some (Puts (Routes login))
+route_by _ _ _ = None
+
+abbrev pub due_route : List Item → Option Item
+due_route past = route_by (pending past) (kept_on past) (login_of past)
+
+-- the link is prepared as soon as it is logged in
+abbrev pub prepare_by : (kept : Option ℕ) → (ℕ → Bool) → Option Item
+prepare_by (Some link) is_free = if is_free link then Some (Puts (Sends link Prepares)) else None
+prepare_by None is_free = None
+
+abbrev pub due_prepare : List Item → Option Item
+due_prepare past = prepare_by (kept_on past) (λ link. is_free false link past)
+
+-- the pending command goes on the link that the session is kept on as soon as that is prepared and free, where it wasn't sent
+-- yet
 abbrev pub send_by : Option Command → (sent kept : Option ℕ) → (ℕ → Bool) → Option Item
 send_by (Some command) None (Some link) is_free =
     if is_free link then Some (Puts (Sends link (Asks command))) else None
 send_by _ _ _ is_free = None
 
 abbrev pub due_send : List Item → Option Item
-due_send past = send_by (pending past) (sent_on past) (kept_on past) (λ link. is_free link past)
+due_send past = send_by (pending past) (sent_on past) (kept_on past) (λ link. is_free true link past)
 
 -- how many bytes a client may have sent that aren't taken up, while a command of its is pending
 abbrev pub flood_limit : Config → ℕ
@@ -253,29 +313,37 @@ abbrev pub due_arrival : List ℕ → List Item → Option Item
 due_arrival [] past = None
 due_arrival (link ∷ others) past = coming link (step (linked link past)).answer or due_arrival others past
 
-abbrev pub taking : Beginning → Option Item
-taking Nothing = None
-taking (Whole payload next rest) = Some (Takes (judged payload next) next)
-taking (Faulty fault) = Some (TakesFault fault)
+-- what comes of the client
+abbrev pub taking : FrontStep → Option Item
+taking fronts.Idle = None
+taking (fronts.Send packets) = Some (Connects (fronts.Send packets))
+taking (fronts.LoggedIn login) = Some (Connects (fronts.LoggedIn login))
+taking (fronts.Command payload) = Some (Takes (judged payload.bytes payload.next) payload.next)
+taking (fronts.End packets reason) = Some (Connects (fronts.End packets reason))
 
--- what the client's bytes begin with is taken up once the command before it is answered
-abbrev pub take_by : Option Command → Beginning → Option Item
-take_by None beginning = taking beginning
-take_by (Some command) beginning = None
+-- the client is read on once the command before is answered
+abbrev pub take_by : Option Command → FrontStep → Option Item
+take_by None said = taking said
+take_by (Some command) said = None
 
 abbrev pub due_take : Config → List Item → Option Item
-due_take config past = take_by (pending past) (first_payload config.command_bytes 0 (held config past))
+due_take config past = take_by (pending past) (step_of config.accounts (fronted config past)).0
 
--- A command that was just taken up is sent before the bytes behind it are counted, so one piece of bytes and two give the
--- same.
+-- A command that was just taken up is routed and sent before the bytes behind it are counted, so one piece of bytes and two
+-- give the same.
 abbrev pub due : Config → List Item → Option Item
-due config past = due_send past or (due_flood config past or (due_arrival (links past) past or due_take config past))
+due config past =
+    due_route past or (due_prepare past or (due_send past or (due_flood config past or (due_arrival (links past) past or due_take config past))))
 
 abbrev pub next_by : List Put → Bool → Option Item → Option Item
 next_by (put ∷ others) over due = Some (Puts put)
 next_by [] true due = None
 next_by [] false due = due
 
--- the session's next step; None where it rests
+abbrev pub unless_asking : Option Login → Option Item → Option Item
+unless_asking (Some login) item = None
+unless_asking None item = item
+
+-- the session's next step; None where it rests, or waits for the worker's answer
 abbrev pub next : Config → List Item → Option Item
-next config past = next_by (owed past) (is_over past) (due config past)
+next config past = unless_asking (asking past) (next_by (owed past) (is_over past) (due config past))

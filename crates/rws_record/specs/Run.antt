@@ -1,16 +1,18 @@
 -- The run of a worker: the events that it was given, what they told its sessions, and what its sessions did, in one
 -- list, newest first.
-use Rattle.std.specs.Prelude.{◌≡◌, ℕ, ◌+◌, max, Bool, true, false, not, List, [], ◌∷◌, ◌++◌, length, drop, nat_lt, ◌==◌, ◌&&◌, Option, Some, None, if◌then◌else◌}
+use Rattle.std.specs.Prelude.{◌≡◌, ℕ, ◌+◌, max, Bool, true, false, not, List, [], ◌∷◌, ◌++◌, length, drop, filter, nat_lt, ◌==◌, ◌&&◌, Option, Some, None, if◌then◌else◌}
 use Rattle.std.specs.Option.{option_map}
 use Rattle.rws_board.specs.declared.event.Event.{Event}
 use Rattle.rws_board.specs.declared.event.Event.TheVariants as events
 use Rattle.rws_board.specs.declared.action.Action.{Action}
 use Rattle.rws_config.specs.declared.config.Config.{Config}
 use Rattle.rws_record.specs.Item.{Item}
-use Rattle.rws_record.specs.Item.Item.{Began, ClientBytes, LinkBytes, ClientGone, LinkLost, Starves}
-use Rattle.rws_record.specs.Values.{opens, links, is_over, is_starved, contains}
+use Rattle.rws_record.specs.Item.Item.{Accepted, TurnsAway, Began, ClientBytes, LinkReady, LinkBytes, ClientGone, LinkLost, Routed, Starves}
+use Rattle.rws_native.specs.declared.login.Login.{Login}
+use Rattle.rws_link.specs.Stepping.{LinkState, is_new}
+use Rattle.rws_record.specs.Values.{opens, links, linked, asking, is_over, is_starved, contains}
 use Rattle.rws_record.specs.Rules.{next, ◌or◌}
-use Rattle.rws_record.specs.Record.{CanBeMade}
+use Rattle.rws_record.specs.Record.{CanBeMade, want_number}
 use Rattle.rws_record.specs.Outputs.{outs_of}
 
 pub data Entry : Type 0 where
@@ -18,7 +20,7 @@ pub data Entry : Type 0 where
   Came : Event → Entry
   -- the last event told a session this
   Heard : (session : ℕ) → Item → Entry
-  -- a session went on by a step of its own
+  -- a session went on by a step of its own, or was answered by its worker
   Did : (session : ℕ) → Item → Entry
 
 -- the record of one session
@@ -37,6 +39,7 @@ is_live (item ∷ past) = not (is_over (item ∷ past))
 
 -- the number of the session that an event is to begin, or 0
 abbrev pub begun_by : Event → ℕ
+begun_by (events.Accept session scramble) = session
 begun_by (events.Begin session server) = session
 begun_by _ = 0
 
@@ -45,6 +48,23 @@ abbrev pub greatest : List Entry → ℕ
 greatest [] = 0
 greatest (Came event ∷ run) = max (begun_by event) (greatest run)
 greatest (_ ∷ run) = greatest run
+
+-- the session that an entry begins, if it does; one that is turned away begins too, and is over as soon as it rests
+abbrev pub begins_session : ℕ → Item → List ℕ
+begins_session session (Accepted number scramble) = session ∷ []
+begins_session session (TurnsAway told) = session ∷ []
+begins_session session (Began link server) = session ∷ []
+begins_session session _ = []
+
+-- the sessions that ever began, in order of number
+abbrev pub begun : List Entry → List ℕ
+begun [] = []
+begun (Heard session item ∷ run) = begun run ++ begins_session session item
+begun (_ ∷ run) = begun run
+
+-- the sessions that are open
+abbrev pub open_sessions : List Entry → List ℕ
+open_sessions run = filter (λ session. is_live (record_of session run)) (begun run)
 
 -- the session and the number of the link that an entry opens
 abbrev pub opens_for : Entry → Option (ℕ × ℕ)
@@ -80,21 +100,35 @@ if_so false a = []
 abbrev pub told_to : ℕ → Item → List Entry → List (ℕ × Item)
 told_to session item run = if_so (is_live (record_of session run)) (session, item)
 
--- to the session for which the link was opened, if it still has the link
-abbrev pub told_on : ℕ → Item → Option ℕ → List Entry → List (ℕ × Item)
-told_on link item None run = []
-told_on link item (Some session) run =
-    if_so (is_live (record_of session run) && contains link (links (record_of session run))) (session, item)
+-- to the session for which the link was opened, if it still has the link, and the link is so
+abbrev pub told_on : ℕ → Item → (LinkState → Bool) → Option ℕ → List Entry → List (ℕ × Item)
+told_on link item is_so None run = []
+told_on link item is_so (Some session) run =
+    let past = record_of session run in
+    if_so (is_live past && (contains link (links past) && is_so (linked link past))) (session, item)
 
--- A session begins with a number above all before and a server of the settings; whatever names a session or a link that
--- isn't open tells nobody anything.
+-- a further session may be open
+abbrev pub has_room : Config → List Entry → Bool
+has_room config run = nat_lt (length (open_sessions run)) config.sessions
+
+-- how a session begins, or that its client is turned away
+abbrev pub beginning : Bool → Item → (told : Bool) → Item
+beginning true item told = item
+beginning false item told = TurnsAway told
+
+-- A session begins with a number above all before, and a link to a server of the settings where it has one from the
+-- beginning; whatever names a session or a link that isn't open tells nobody anything.
 abbrev pub told_by : Config → Event → List Entry → List (ℕ × Item)
+told_by config (events.Accept session scramble) run =
+    if_so (nat_lt (greatest run) session) (session, beginning (has_room config run) (Accepted session scramble) true)
 told_by config (events.Begin session server) run =
-    if_so (nat_lt (greatest run) session && nat_lt server (length config.servers)) (session, Began (last_link run + 1) server)
+    if_so (nat_lt (greatest run) session && nat_lt server (length config.servers))
+    (session, beginning (has_room config run) (Began (last_link run + 1) server) false)
 told_by config (events.ClientBytes session bytes) run = told_to session (ClientBytes bytes) run
 told_by config (events.ClientGone session) run = told_to session ClientGone run
-told_by config (events.LinkBytes link bytes) run = told_on link (LinkBytes link bytes) (owner link run) run
-told_by config (events.LinkGone link) run = told_on link (LinkLost link) (owner link run) run
+told_by config (events.LinkReady link) run = told_on link (LinkReady link) (λ state. is_new state) (owner link run) run
+told_by config (events.LinkBytes link bytes) run = told_on link (LinkBytes link bytes) (λ state. true) (owner link run) run
+told_by config (events.LinkGone link) run = told_on link (LinkLost link) (λ state. true) (owner link run) run
 told_by config events.End run = []
 
 -- what the last event tells that wasn't heard yet
@@ -117,14 +151,27 @@ abbrev pub step_of : Config → Option ℕ → List Entry → Option Entry
 step_of config None run = None
 step_of config (Some session) run = option_map (λ item. Did session item) (next config (record_of session run))
 
+-- the server to which each link is opened, as long as commands aren't routed
+abbrev pub only_server : ℕ
+only_server = 0
+
+abbrev pub answering : Option Login → ℕ → (last : ℕ) → Option Entry
+answering (Some login) session last = Some (Did session (Routed (last + 1) only_server))
+answering None session last = None
+
+-- the worker answers the session that asks it, by the number of the next link
+abbrev pub answer_of : Option ℕ → List Entry → Option Entry
+answer_of None run = None
+answer_of (Some session) run = answering (asking (record_of session run)) session (last_link run)
+
 abbrev pub hearing : List (ℕ × Item) → Option Entry
 hearing [] = None
 hearing (told ∷ others) = Some (Heard told.0 told.1)
 
--- The next entry but an event: the session that heard something goes on until it rests, and then the next one hears what
--- it is told. None where the run rests.
+-- The next entry but an event: the session that heard something goes on until it rests, the worker's answers between, and then
+-- the next one hears what it is told. None where the run rests.
 abbrev pub next_entry : Config → List Entry → Option Entry
-next_entry config run = step_of config (hearer run) run or hearing (untold config run)
+next_entry config run = step_of config (hearer run) run or (answer_of (hearer run) run or hearing (untold config run))
 
 -- Each event comes when the run rests, and each other entry is the next one; but to the session that heard of the last
 -- event memory may be wanting, once.
@@ -134,12 +181,13 @@ pub data IsRun (config : Config) : List Entry → Type 0 where
       → IsRun config (Came event ∷ run)
   goes_on : {run : List Entry} {entry : Entry} → IsRun config run → next_entry config run ≡ Some entry
       → IsRun config (entry ∷ run)
-  starves : {run : List Entry} {session : ℕ} {made : Bool} → IsRun config run → hearer run ≡ Some session
+  starves : {run : List Entry} {session number : ℕ} {made : Bool} → IsRun config run → hearer run ≡ Some session
       → is_starved (record_of session run) ≡ false → CanBeMade made (record_of session run)
-      → IsRun config (Did session (Starves made) ∷ run)
+      → number ≡ want_number config (record_of session run)
+      → IsRun config (Did session (Starves made number) ∷ run)
 
 abbrev pub is_want : Item → Bool
-is_want (Starves made) = true
+is_want (Starves made number) = true
 is_want _ = false
 
 -- memory was wanting nowhere in the run

@@ -1,55 +1,90 @@
 -- What a record says. Each value is read from the items alone, newest first, and is a function of its own; a value of a
 -- link takes the link's number.
-use Rattle.std.specs.Prelude.{ℕ, Bool, true, false, not, List, [], ◌∷◌, ◌++◌, filter, ◌==◌, Option, Some, None, if◌then◌else◌}
+use Rattle.std.specs.Prelude.{ℕ, Bool, true, false, not, List, [], ◌∷◌, ◌++◌, filter, ◌==◌, Option, Some, None, codes, if◌then◌else◌}
 use Rattle.rws_wire.specs.Packets.{number_behind}
-use Rattle.rws_wire.specs.Payloads.{Beginning, first_payload}
-use Rattle.rws_wire.specs.Payloads.Beginning.{Nothing, Whole, Faulty}
-use Rattle.rws_wire.specs.declared.fault.WireFault.{WireFault}
+use Rattle.rws_msgs.specs.declared.command.TheConstants.{COM_QUERY}
+use Rattle.rws_native.specs.declared.login.Login.{Login}
 use Rattle.rws_reply.specs.declared.kind.Kind.{Kind}
-use Rattle.rws_link.specs.Stepping.{LinkState, LogsIn, Rests, Awaits, IsLost, Exchange, fed, sent, step}
+use Rattle.rws_reply.specs.declared.kind.Kind.TheVariants.{Query as QueryReply}
+use Rattle.rws_reply.specs.declared.kind.Outcome.TheVariants.{Done}
+use Rattle.rws_reply.specs.declared.kind.Progress.TheVariants.{Whole as Ends}
+use Rattle.rws_front.specs.declared.phase.Phase.TheVariants.{Greets as IsToGreet, Commands}
+use Rattle.rws_front.specs.declared.step.FrontStep.{FrontStep}
+use Rattle.rws_front.specs.declared.step.FrontStep.TheVariants as fronts
+use Rattle.rws_front.specs.Fronting.{Fronting, fed as front_fed}
+use Rattle.rws_front.specs.Connection.{step_of}
+use Rattle.rws_link.specs.declared.step.LinkStep.{LinkStep}
+use Rattle.rws_link.specs.declared.step.LinkStep.TheVariants as steps
+use Rattle.rws_link.specs.Stepping.{LinkState, LogsIn, Rests, Awaits, IsLost, Exchange, fed, opened as opening, readied, sent, step}
 use Rattle.rws_config.specs.declared.config.Config.{Config}
 use Rattle.rws_record.specs.declared.command.Command.{Command}
-use Rattle.rws_record.specs.Item.{Item, Purpose}
-use Rattle.rws_record.specs.Item.Item.{Began, ClientBytes, LinkBytes, ClientGone, LinkLost, Comes, Takes, TakesFault, Puts, Starves}
+use Rattle.rws_record.specs.Item.{Item, Purpose, Put}
+use Rattle.rws_record.specs.Item.Item.{Accepted, Began, ClientBytes, LinkReady, LinkBytes, ClientGone, LinkLost, Routed, Comes, Connects, Takes, Puts, Starves}
 use Rattle.rws_record.specs.Item.Judged.{Serves}
-use Rattle.rws_record.specs.Item.Put.{Tells, Sends, Drops, Closes}
+use Rattle.rws_record.specs.Item.Put.{Tells, Routes, Opens, Sends, Drops, Closes}
 use Rattle.rws_record.specs.Item.Tell.{Passes}
-use Rattle.rws_record.specs.Item.Purpose.{Asks}
+use Rattle.rws_record.specs.Item.Purpose.{Prepares, Asks}
 
--- The client's stream
+-- The client's side
 
--- the bytes behind the payload that bytes begin with
-abbrev pub rest_of : Beginning → List ℕ
-rest_of (Whole payload next rest) = rest
-rest_of Nothing = []
-rest_of (Faulty fault) = []
+-- one that connected, and one whose session begins with the commands: it has no greeting, and so no scramble for one
+abbrev pub new_front : Config → ℕ → List ℕ → Fronting
+new_front config session scramble = record {
+  session = session;
+  scramble = scramble;
+  phase = IsToGreet;
+  stream = record { limit = config.command_bytes; held = []; stopped = None };
+}
 
--- the client's bytes that aren't taken up yet
+abbrev pub no_scramble : List ℕ
+no_scramble = 0 ∷ 0 ∷ 0 ∷ 0 ∷ 0 ∷ 0 ∷ 0 ∷ 0 ∷ 0 ∷ 0 ∷ 0 ∷ 0 ∷ 0 ∷ 0 ∷ 0 ∷ 0 ∷ 0 ∷ 0 ∷ 0 ∷ 0 ∷ []
+
+abbrev pub begun_front : Config → Fronting
+begun_front config = record (new_front config 0 no_scramble) { phase = Commands }
+
+-- Where the client stands: how far its login has come, and its bytes that aren't taken up yet.
+abbrev pub fronted : Config → List Item → Fronting
+fronted config [] = begun_front config
+fronted config (Accepted session scramble ∷ past) = new_front config session scramble
+fronted config (Began link server ∷ past) = begun_front config
+fronted config (ClientBytes bytes ∷ past) = front_fed (fronted config past) bytes
+fronted config (Connects said ∷ past) = (step_of config.accounts (fronted config past)).1
+fronted config (Takes judged number ∷ past) = (step_of config.accounts (fronted config past)).1
+fronted config (_ ∷ past) = fronted config past
+
+-- its bytes that aren't taken up yet
 abbrev pub held : Config → List Item → List ℕ
-held config [] = []
-held config (ClientBytes bytes ∷ past) = held config past ++ bytes
-held config (Takes judged number ∷ past) = rest_of (first_payload config.command_bytes 0 (held config past))
-held config (_ ∷ past) = held config past
+held config past = (fronted config past).stream.held
 
--- the fault of the client's packets that was taken up
-abbrev pub client_fault : List Item → Option WireFault
-client_fault [] = None
-client_fault (TakesFault fault ∷ past) = Some fault
-client_fault (_ ∷ past) = client_fault past
+abbrev pub login_by : FrontStep → Option Login → Option Login
+login_by (fronts.LoggedIn login) before = Some login
+login_by _ before = before
+
+-- the login of the client, which its links repeat
+abbrev pub login_of : List Item → Option Login
+login_of [] = None
+login_of (Connects said ∷ past) = login_by said (login_of past)
+login_of (_ ∷ past) = login_of past
 
 -- The links that the session has
 
 -- the link that an item opens, and its server
+abbrev pub opened_by : Put → Option (ℕ × ℕ)
+opened_by (Opens link server login) = Some (link, server)
+opened_by _ = None
+
 abbrev pub opens : Item → Option (ℕ × ℕ)
 opens (Began link server) = Some (link, server)
+opens (Puts put) = opened_by put
 opens _ = None
-
-abbrev pub with_opened : Option (ℕ × ℕ) → List ℕ → List ℕ
-with_opened (Some opened) links = links ++ opened.0 ∷ []
-with_opened None links = links
 
 abbrev pub without : ℕ → List ℕ → List ℕ
 without link links = filter (λ other. not (other == link)) links
+
+-- a number is given to one link only, so a link that is opened takes nobody's place
+abbrev pub with_opened : Option (ℕ × ℕ) → List ℕ → List ℕ
+with_opened (Some opened) links = without opened.0 links ++ opened.0 ∷ []
+with_opened None links = links
 
 -- a list of links has this one
 abbrev pub contains : ℕ → List ℕ → Bool
@@ -72,38 +107,66 @@ abbrev pub server_of : ℕ → List Item → ℕ
 server_of link [] = 0
 server_of link (item ∷ past) = server_by link (opens item) (server_of link past)
 
--- the link that the session is kept on
+abbrev pub kept_by : Option (ℕ × ℕ) → Option ℕ → Option ℕ
+kept_by (Some opened) before = Some opened.0
+kept_by None before = before
+
+-- The link that the session is kept on. Commands aren't routed yet, so a session opens one link, and is kept on it.
 abbrev pub kept_on : List Item → Option ℕ
 kept_on [] = None
-kept_on (Began link server ∷ past) = Some link
-kept_on (_ ∷ past) = kept_on past
+kept_on (item ∷ past) = kept_by (opens item) (kept_on past)
 
 -- What a link is
 
+-- The command with which a link is prepared: its server names the GTID of each commit in the OK from then on ("Session
+-- state changes" of OK_Packet).
+abbrev pub preamble : List ℕ
+preamble =
+    COM_QUERY ∷ codes "SET SESSION session_track_system_variables = CONCAT(@@session_track_system_variables, ',last_gtid')"
+
 -- what goes on the link for a purpose
 abbrev pub sent_for : Purpose → List ℕ
+sent_for Prepares = preamble
 sent_for (Asks command) = command.payload
 
 -- the kind of reply that answers it
 abbrev pub kind_of : Purpose → Kind
+kind_of Prepares = QueryReply
 kind_of (Asks command) = command.kind
 
--- A link: what it waits for, with the bytes that came and aren't read. That of a session's beginning is ready, and counts as
--- such before it was opened too. When the session loses the link it isn't cleared: it then says what was awaited there.
+-- A link: what it waits for, with the bytes that came and aren't read. That of a session's beginning is ready, and any counts as
+-- such before it was opened. When the session loses the link it isn't cleared: it then says what was awaited there.
 abbrev pub linked : ℕ → List Item → LinkState
 linked link [] = Rests
 linked link (Began opened server ∷ past) = if opened == link then Rests else linked link past
 linked link (LinkBytes from bytes ∷ past) = if from == link then fed bytes (linked link past) else linked link past
 linked link (Comes from said ∷ past) = if from == link then (step (linked link past)).after else linked link past
+linked link (LinkReady ready ∷ past) = if ready == link then readied (linked link past) else linked link past
+linked link (Puts (Opens opened server login) ∷ past) = if opened == link then opening login else linked link past
 linked link (Puts (Sends to purpose) ∷ past) =
     if to == link then sent (sent_for purpose) (Some (kind_of purpose)) else linked link past
 linked link (_ ∷ past) = linked link past
 
--- what was sent on the link last; it isn't cleared either
+-- what was sent on the link last, since it was opened; it isn't cleared either
 abbrev pub asked_on : ℕ → List Item → Option Purpose
 asked_on link [] = None
+asked_on link (Puts (Opens opened server login) ∷ past) = if opened == link then None else asked_on link past
 asked_on link (Puts (Sends to purpose) ∷ past) = if to == link then Some purpose else asked_on link past
 asked_on link (_ ∷ past) = asked_on link past
+
+abbrev pub prepared_by : LinkStep → Option Purpose → Bool → Bool
+prepared_by (steps.Part payload role (Ends (Done status)) next behind) (Some Prepares) before = true
+prepared_by _ _ before = before
+
+-- commands of the client may go on the link: it was prepared, or counts as it
+abbrev pub is_up : ℕ → List Item → Bool
+is_up link [] = false
+is_up link (Began opened server ∷ past) = if opened == link then true else is_up link past
+is_up link (Puts (Opens opened server login) ∷ past) = if opened == link then false else is_up link past
+is_up link (LinkReady ready ∷ past) = if ready == link then true else is_up link past
+is_up link (Comes from said ∷ past) =
+    if from == link then prepared_by said (asked_on link past) (is_up link past) else is_up link past
+is_up link (_ ∷ past) = is_up link past
 
 abbrev pub awaited : LinkState → Option Exchange
 awaited (LogsIn handshake unread) = None
@@ -169,6 +232,20 @@ told_from (Puts (Tells number (Passes link command payload (Some outcome))) ∷ 
 told_from (Puts (Tells number (Passes link command payload None)) ∷ past) = Some link
 told_from (_ ∷ past) = told_from past
 
+-- What the session waits for
+
+abbrev pub asking_by : Put → Option Login → Option Login
+asking_by (Routes login) before = Some login
+asking_by _ before = before
+
+-- it asked the worker where its command is to go, and wasn't answered; a link for it is to log in so
+abbrev pub asking : List Item → Option Login
+asking [] = None
+asking (Routed link server ∷ past) = None
+asking (Starves made number ∷ past) = None
+asking (Puts put ∷ past) = asking_by put (asking past)
+asking (_ ∷ past) = asking past
+
 -- the session is closed, or its client is gone
 abbrev pub is_over : List Item → Bool
 is_over [] = false
@@ -179,5 +256,5 @@ is_over (_ ∷ past) = is_over past
 -- memory was wanting to the session
 abbrev pub is_starved : List Item → Bool
 is_starved [] = false
-is_starved (Starves made ∷ past) = true
+is_starved (Starves made number ∷ past) = true
 is_starved (_ ∷ past) = is_starved past

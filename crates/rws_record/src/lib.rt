@@ -8,10 +8,12 @@
 
 mod command;
 mod law;
+mod preparing;
 mod proxy_error;
 mod request;
 
 pub use command::Command;
 pub use law::{one_run, records};
+pub use preparing::preamble;
 pub use proxy_error::ProxyError;
 pub use request::Request;

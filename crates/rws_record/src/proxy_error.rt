@@ -18,8 +18,8 @@ pub enum ProxyError {
     TooManyStatements,
     /// The command changes something, and the open transaction is read-only.
     NotInReadOnly,
-    /// A packet has another number than the one that is due.
-    PacketsOutOfOrder,
+    /// There are as many sessions as may be.
+    TooManyConnections,
     /// A command is longer than the limit.
     CommandTooLarge,
     /// Memory was wanting in the session.
@@ -40,7 +40,7 @@ impl ProxyError {
             ProxyError::BadExecute => b"\xff\x51\x04#HY000bad execute",
             ProxyError::TooManyStatements => b"\xff\xb5\x05#42000too many statements",
             ProxyError::NotInReadOnly => b"\xff\xd3\x04#42000not in a read-only transaction",
-            ProxyError::PacketsOutOfOrder => b"\xff\x84\x04#08S01packets out of order",
+            ProxyError::TooManyConnections => b"\xff\x10\x04#08004too many connections",
             ProxyError::CommandTooLarge => b"\xff\x81\x04#08S01command too large",
             ProxyError::OutOfMemory => b"\xff\x0d\x04#HY001out of memory",
         }
