@@ -7,7 +7,7 @@ use Rattle.rws_wire.specs.declared.drop_cause.DropCause.TheVariants.{End}
 use Rattle.rws_config.specs.declared.config.Config.{Config}
 use Rattle.rws_record.specs.Item.{Item, Put}
 use Rattle.rws_record.specs.Item.Item.{Puts}
-use Rattle.rws_record.specs.Item.Put.{Tells, Sends, Drops, Closes}
+use Rattle.rws_record.specs.Item.Put.{Hands, Tells, Routes, Opens, LogsInto, Sends, Drops, Closes}
 use Rattle.rws_record.specs.Item.Tell.{Passes, Owns, Refuses}
 use Rattle.rws_record.specs.Values.{links, without}
 use Rattle.rws_record.specs.Rules.{owed, after_loss, is_loss}
@@ -16,6 +16,7 @@ use Rattle.rws_session.specs.declared.owing.Out.{Out}
 use Rattle.rws_session.specs.declared.owing.Out.TheVariants as outs
 use Rattle.rws_session.specs.State.{State, erased, link_of, state_of}
 use Rattle.rws_session.specs.Table.{without_number}
+use Rattle.rws_session.proofs.TableLemmas.{opened_is}
 use Rattle.rws_session.specs.Steps.{after_out, gives_up}
 
 -- what is kept of a record, but for what is owed
@@ -58,6 +59,14 @@ put_is config past (Tells number (Owns status)) others out o e =
     let same : outs.Own number status ≡ out = cc in rw (← same) (rw o refl)
 put_is config past (Tells number (Refuses error)) others out o e =
     let same : outs.Refuse number error ≡ out = cc in rw (← same) (rw o refl)
+put_is config past (Hands packets) others out o e =
+    let same : outs.Hand packets ≡ out = cc in rw (← same) (rw o refl)
+put_is config past (Routes login) others out o e = absurd cc
+put_is config past (Opens link server login) others out o e =
+    let same : outs.Open link server login ≡ out = cc in
+    rw (← same) (rw (o, opened_is past link server login (links past)) refl)
+put_is config past (LogsInto link packets) others out o e =
+    let same : outs.LogIn link packets ≡ out = cc in rw (← same) (rw o refl)
 put_is config past (Sends link purpose) others out o e = absurd cc
 put_is config past (Drops link cause) others out o e =
     let same : outs.Drop link cause ≡ out = cc in rw (← same) (by_loss (is_loss cause) refl)

@@ -1,42 +1,43 @@
 -- Each kind of step, where it was tried on a session that keeps what it is to keep: it makes the item that is due.
-use Rattle.std.proofs.Common.{◌≡◌, ℕ, ◌+◌, length, Bool, true, false, List, [], ◌∷◌, ◌++◌, map, refl, sym, ap, subst, ◌∙◌, inl, inr, Option, Some, None, Result, Ok, Err, IfOk}
-use Rattle.std.specs.Prelude.{◌⊎◌, if◌then◌else◌, is_some, IfSome}
+use Rattle.std.proofs.Common.{◌≡◌, ℕ, length, Bool, true, false, List, [], ◌∷◌, ◌++◌, map, refl, sym, ap, subst, ◌∙◌, Option, Some, None, Result, Ok, Err, IfOk}
+use Rattle.std.specs.Prelude.{if◌then◌else◌, is_some, IfSome}
+use Rattle.std.specs.Option.{option_map}
 use Rattle.std.proofs.lemmas.List.{append-nil}
-use Rattle.rws_wire.specs.Deframing.{Deframing, HandsOut, next_of, unless_stopped}
-use Rattle.rws_wire.specs.Payloads.{Beginning, first_payload}
-use Rattle.rws_wire.specs.Payloads.Beginning.{Nothing, Whole, Faulty}
-use Rattle.rws_wire.specs.declared.fault.NextError.TheVariants.{Fault}
-use Rattle.rws_wire.specs.declared.fault.WireFault.{WireFault}
 use Rattle.rws_wire.specs.declared.payload.Payload.{Payload}
+use Rattle.rws_native.specs.declared.login.Login.{Login}
 use Rattle.rws_reply.specs.declared.kind.Progress.{Progress}
 use Rattle.rws_reply.specs.declared.kind.Progress.TheVariants.{More, Whole as Ends}
+use Rattle.rws_front.specs.declared.step.FrontStep.{FrontStep}
+use Rattle.rws_front.specs.declared.step.FrontStep.TheVariants as fronts
+use Rattle.rws_front.specs.Connection.{step_of}
+use Rattle.rws_front.specs.Fronting.{Fronting}
 use Rattle.rws_link.specs.declared.step.LinkStep.{LinkStep}
 use Rattle.rws_link.specs.declared.step.LinkStep.TheVariants as steps
-use Rattle.rws_link.specs.Stepping.{LinkState, is_some_byte, step}
 use Rattle.rws_board.specs.declared.action.Action.{Action}
 use Rattle.rws_config.specs.declared.config.Config.{Config}
-use Rattle.rws_config.specs.declared.limits.TheConstants.{FLOOD_ROOM}
 use Rattle.rws_record.specs.declared.command.Command.{Command}
 use Rattle.rws_record.specs.Item.{Item, Judged, Purpose, Put}
-use Rattle.rws_record.specs.Item.Item.{Comes, Floods, Puts, Takes, TakesFault}
+use Rattle.rws_record.specs.Item.Item.{Comes, Connects, Floods, Puts, Takes}
 use Rattle.rws_record.specs.Item.Judged.{Leaves, Pings, IsRefused, Serves}
-use Rattle.rws_record.specs.Item.Put.{Tells, Sends, Drops, Closes}
+use Rattle.rws_record.specs.Item.Put.{Hands, Tells, Routes, Opens, LogsInto, Sends, Drops, Closes}
 use Rattle.rws_record.specs.Item.Tell.{Passes, Owns, Refuses}
-use Rattle.rws_record.specs.Item.Purpose.{Asks}
+use Rattle.rws_record.specs.Item.Purpose.{Prepares, Asks}
 use Rattle.rws_record.specs.Judging.{judged}
-use Rattle.rws_record.specs.Values.{asked_on, client_fault, held, is_over, kept_on, linked, links, pending, reply_number, sent_on}
-use Rattle.rws_record.specs.Rules.{after_answer, after_coming, after_command, after_fault, after_flood, after_part, coming, due_arrival, due_flood, flood_by, flood_limit, due_send, due_take, form_of, is_free, owed, send_by, take_by}
-use Rattle.rws_record.specs.Outputs.{outs_for, outs_of}
-use Rattle.rws_record.proofs.LinkedLemmas.{Says, awaits_asked, never_logs_in, says}
-use Rattle.rws_record.proofs.LinkedLemmas.Says.{part, garbled, wrong, again}
-use Rattle.rws_record.proofs.StepLemmas.{either}
+use Rattle.rws_record.specs.Values.{asked_on, asking, fronted, held, kept_on, links, pending, reply_number, sent_on}
+use Rattle.rws_record.specs.Rules.{after_answer, after_coming, after_command, after_connecting, after_flood, after_part, due_arrival, due_flood, due_prepare, due_route, due_send, due_take, flood_by, flood_limit, form_of, is_free, next, owed, route_by, send_by, take_by, taking}
+use Rattle.rws_record.specs.Outputs.{outs_for}
+use Rattle.rws_record.proofs.StepLemmas.{IsConnecting}
+use Rattle.rws_record.proofs.StepLemmas.IsConnecting.{sends_back, lets_in, ends_it}
+use Rattle.rws_session.specs.declared.links.Asked.{Asked}
+use Rattle.rws_session.specs.declared.links.Coming.{Coming}
 use Rattle.rws_session.specs.declared.links.NumberedLink.{NumberedLink}
 use Rattle.rws_session.specs.declared.owing.Out.{Out}
-use Rattle.rws_session.specs.State.{State, erased, link_of, state_of}
+use Rattle.rws_session.specs.State.{State, asked_for, erased, link_of, state_of}
 use Rattle.rws_session.specs.Table.{AreDistinct, ReadsFirst, SendsOn}
 use Rattle.rws_session.specs.Kept.{Kept, Is}
-use Rattle.rws_session.specs.Steps.{SendsPending, Tries, Went, action_of, after_out, due_put, gives, going_on, owes, owes_for, owes_reply, pending_by, takes}
-use Rattle.rws_session.proofs.RecordLemmas.{client_sound, links_distinct}
+use Rattle.rws_session.specs.Steps.{SendsPending, SendsPreamble, TakesSaid, Tries, Went, action_of, after_out, connects, due_put, gives, going_on, owes, owes_for, owes_part, owes_reply, pending_by, recounted, stands_at, takes}
+use Rattle.rws_session.proofs.FrontLemmas.{idle_stays}
+use Rattle.rws_session.proofs.RecordLemmas.{links_distinct}
 use Rattle.rws_session.proofs.MirrorLemmas.{put_is, owing_else}
 
 -- What is owed
@@ -46,6 +47,10 @@ out_is : (session : ℕ) (past : List Item) (put : Put) (out : Out) → erased p
 out_is session past (Tells number (Passes link command payload outcome)) out e = cc
 out_is session past (Tells number (Owns status)) out e = cc
 out_is session past (Tells number (Refuses error)) out e = cc
+out_is session past (Hands packets) out e = cc
+out_is session past (Routes login) out e = absurd cc
+out_is session past (Opens link server login) out e = cc
+out_is session past (LogsInto link packets) out e = cc
 out_is session past (Sends link purpose) out e = absurd cc
 out_is session past (Drops link cause) out e = cc
 out_is session past (Closes reason) out e = cc
@@ -86,6 +91,70 @@ paid config past old mid new out is first left given =
           };
         }
 
+-- The worker is asked
+
+pub asked_nothing : (config : Config) (past : List Item) (k : Kept) → Is config k past
+    → route_by k.state.pending k.state.kept_on k.state.login ≡ None → due_route past ≡ None
+asked_nothing config past k is none = rw is.mirrors at none
+
+-- a command waits, and there is no link
+pub asked_worker : (config : Config) (past : List Item) (old new : Kept) (login : Login) → Is config old past → owed past ≡ []
+    → asking past ≡ None → route_by old.state.pending old.state.kept_on old.state.login ≡ Some (Puts (Routes login))
+    → new ≡ record old { state = record old.state { asking = Some login } } → Went config (due_route past) past old new
+asked_worker config past old new login is o a some now =
+    let due : due_route past ≡ Some (Puts (Routes login)) = rw is.mirrors at some in
+    record {
+      item = Puts (Routes login);
+      is_due = due;
+      made = record {
+        number = ap (λ (k : Kept). k.number) now;
+        outs = ap (λ (k : Kept). k.outs) now ∙ sym (append-nil old.outs);
+        state = ap (λ (k : Kept). k.state) now ∙ ap (λ (s : State). record s { asking = Some login }) is.mirrors ∙ rw o refl;
+      };
+    }
+
+-- A link is prepared
+
+pub prepared_nowhere : (config : Config) (past : List Item) (k : Kept) → Is config k past → k.state.kept_on ≡ None
+    → due_prepare past ≡ None
+prepared_nowhere config past k is none =
+    let none : kept_on past ≡ None = rw is.mirrors at none in rw none refl
+
+prepared : (config : Config) (past : List Item) (link : ℕ) (went : Bool) (old new : Kept) → Is config old past → owed past ≡ []
+    → old.state.kept_on ≡ Some link → SendsPreamble link went old new
+    → ((numbers : List ℕ) → old.state.links ≡ map (link_of past) numbers → AreDistinct numbers
+    → SendsOn link Prepares past numbers went new.state.links)
+    → Tries config (due_prepare past) past went old new
+prepared config past link true old new is o kept sends links_are =
+    let kept : kept_on past ≡ Some link = rw is.mirrors at kept in
+    let now = links_are (links past) (ap (λ (s : State). s.links) is.mirrors) (links_distinct is.legal) in
+    record {
+      item = Puts (Sends link Prepares);
+      is_due = rw kept (rw now.0 refl);
+      made = record {
+        number = ap (λ (k : Kept). k.number) sends;
+        outs = ap (λ (k : Kept). k.outs) sends;
+        state = ap (λ (k : Kept). k.state) sends
+            ∙ ap (λ (s : State). record s { links = new.state.links }) is.mirrors ∙ rw (now.1, o) refl;
+      };
+    }
+prepared config past link false old new is o kept sends links_are =
+    let kept : kept_on past ≡ Some link = rw is.mirrors at kept in
+    let now = links_are (links past) (ap (λ (s : State). s.links) is.mirrors) (links_distinct is.legal) in (
+      rw kept (rw now.0 refl),
+      sends ∙ ap (λ (l : List NumberedLink). record old { state = record old.state { links = l } })
+          (now.1 ∙ sym (ap (λ (s : State). s.links) is.mirrors)),
+    )
+
+pub prepared_or_not : (config : Config) (past : List Item) (link : ℕ) (old new : Kept) {E : Type 0} (result : Result Bool E)
+    → Is config old past → owed past ≡ [] → old.state.kept_on ≡ Some link
+    → IfOk result (λ went. SendsPreamble link went old new)
+    → ((numbers : List ℕ) → old.state.links ≡ map (link_of past) numbers → AreDistinct numbers
+    → IfOk result (λ went. SendsOn link Prepares past numbers went new.state.links))
+    → IfOk result (λ went. Tries config (due_prepare past) past went old new)
+prepared_or_not config past link old new (Ok went) is o kept sends links_are = prepared config past link went old new is o kept sends links_are
+prepared_or_not config past link old new (Err error) is o kept sends links_are = tt
+
 -- The pending command
 
 -- where it may go, as code and as the rule look for it
@@ -93,7 +162,7 @@ gone_nowhere : (past : List Item) → going_on (pending past) (sent_on past) (ke
 gone_nowhere past e = by_values (pending past) (sent_on past) (kept_on past) e
   where
     by_values : (command : Option Command) (sent kept : Option ℕ) → going_on command sent kept ≡ None
-        → send_by command sent kept (λ link. is_free link past) ≡ None
+        → send_by command sent kept (λ link. is_free true link past) ≡ None
     by_values None sent kept e = refl
     by_values (Some command) (Some link) kept e = refl
     by_values (Some command) None None e = refl
@@ -116,7 +185,7 @@ waiting past link command p e = by_values (sent_on past) (kept_on past) refl ref
     by_values None (Some on) s k e = record { is_pending = p; is_unsent = s; is_kept = k ∙ e }
 
 -- what is due then, by whether the link is free
-due_by : (past : List Item) (link : ℕ) (command : Command) (free : Bool) → Waiting past link command → is_free link past ≡ free
+due_by : (past : List Item) (link : ℕ) (command : Command) (free : Bool) → Waiting past link command → is_free true link past ≡ free
     → due_send past ≡ (if free then Some (Puts (Sends link (Asks command))) else None)
 due_by past link command free w f = rw (w.is_pending, w.is_unsent, w.is_kept, f) refl
 
@@ -129,19 +198,19 @@ sent : (config : Config) (past : List Item) (link : ℕ) (went : Bool) (old new 
     → going_on old.state.pending old.state.sent_on old.state.kept_on ≡ Some link
     → SendsPending link old.state.pending went old new
     → ((numbers : List ℕ) → old.state.links ≡ map (link_of past) numbers → AreDistinct numbers
-    → IfSome old.state.pending (λ command. SendsOn link command past numbers went new.state.links))
+    → IfSome old.state.pending (λ command. SendsOn link (Asks command) past numbers went new.state.links))
     → Tries config (due_send past) past went old new
 sent config past link went old new is o some sends links_are =
     by_pending (pending past) refl went
     (subst (λ (s : State). SendsPending link s.pending went old new) is.mirrors sends)
-    (subst (λ (s : State). IfSome s.pending (λ command. SendsOn link command past (links past) went new.state.links)) is.mirrors
+    (subst (λ (s : State). IfSome s.pending (λ command. SendsOn link (Asks command) past (links past) went new.state.links)) is.mirrors
     (links_are (links past) (ap (λ (s : State). s.links) is.mirrors) (links_distinct is.legal)))
   where
     on_this : going_on (pending past) (sent_on past) (kept_on past) ≡ Some link
     on_this = rw is.mirrors at some
 
     by_pending : (command : Option Command) → pending past ≡ command → (went : Bool) → SendsPending link command went old new
-        → IfSome command (λ command. SendsOn link command past (links past) went new.state.links)
+        → IfSome command (λ command. SendsOn link (Asks command) past (links past) went new.state.links)
         → Tries config (due_send past) past went old new
     by_pending None p went sends now = let none : None ≡ Some link = rw p at on_this in absurd cc
     by_pending (Some command) p true sends now =
@@ -167,7 +236,7 @@ pub sent_or_not : (config : Config) (past : List Item) (link : ℕ) (old new : K
     → owed past ≡ [] → going_on old.state.pending old.state.sent_on old.state.kept_on ≡ Some link
     → IfOk result (λ went. SendsPending link old.state.pending went old new)
     → ((numbers : List ℕ) → old.state.links ≡ map (link_of past) numbers → AreDistinct numbers
-    → IfSome old.state.pending (λ command. IfOk result (λ went. SendsOn link command past numbers went new.state.links)))
+    → IfSome old.state.pending (λ command. IfOk result (λ went. SendsOn link (Asks command) past numbers went new.state.links)))
     → IfOk result (λ went. Tries config (due_send past) past went old new)
 sent_or_not config past link old new (Ok went) is o some sends links_are = sent config past link went old new is o some sends links_are
 sent_or_not config past link old new (Err error) is o some sends links_are = tt
@@ -175,13 +244,13 @@ sent_or_not config past link old new (Err error) is o some sends links_are = tt
 -- A flood behind it
 
 pub flooded_nothing : (config : Config) (past : List Item) (k : Kept) → Is config k past
-    → flood_by k.state.pending (k.state.client.limit + FLOOD_ROOM) (length k.state.client.held) ≡ None → due_flood config past ≡ None
+    → flood_by k.state.pending (flood_limit config) (length k.state.front.stream.held) ≡ None → due_flood config past ≡ None
 flooded_nothing config past k is none =
     let none : flood_by (pending past) (flood_limit config) (length (held config past)) ≡ None = rw is.mirrors at none in
     rw none refl
 
 pub flooded : (config : Config) (past : List Item) (old new : Kept) (bytes : ℕ) → Is config old past → owed past ≡ []
-    → flood_by old.state.pending (old.state.client.limit + FLOOD_ROOM) (length old.state.client.held) ≡ Some bytes
+    → flood_by old.state.pending (flood_limit config) (length old.state.front.stream.held) ≡ Some bytes
     → new ≡ record old { state = owes (after_flood bytes) old.state } → Went config (due_flood config past) past old new
 flooded config past old new bytes is o some now =
     let some : flood_by (pending past) (flood_limit config) (length (held config past)) ≡ Some bytes = rw is.mirrors at some in
@@ -203,48 +272,22 @@ follows_part : (link : ℕ) (command : Command) (form : List ℕ) (far : Progres
 follows_part link command form More behind number = refl
 follows_part link command form (Ends outcome) behind number = refl
 
+-- what follows on a payload, by what was asked
+follows_asked : (link : ℕ) (purpose : Option Purpose) (form : List ℕ) (far : Progress) (behind : Bool) (number : ℕ)
+    → owes_part link (option_map asked_for purpose) form far behind number ≡ map erased (after_part link purpose form far behind number)
+follows_asked link (Some (Asks command)) form far behind number = follows_part link command form far behind number
+follows_asked link (Some Prepares) form far behind number = refl
+follows_asked link None form far behind number = refl
+
 -- what follows on what a link says
-follows : (past : List Item) (link : ℕ) (state : LinkState) (said : LinkStep) (number : ℕ) → linked link past ≡ state → Says state said
-    → owes_for link said number ≡ map erased (after_coming link said (asked_on link past) number)
-follows past link state said number is (part {e = e} {unread = unread} {payload = payload} {rest = rest} {its = its} {far = far} f r p) =
-    let asked = awaits_asked link past e unread is in
-    by_purpose asked.purpose asked.is
-  where
-    by_purpose : (purpose : Purpose) → asked_on link past ≡ Some purpose
-        → owes_reply link (form_of its payload) far (is_some_byte rest) number
-        ≡ map erased (after_part link (asked_on link past) (form_of its payload) far (is_some_byte rest) number)
-    by_purpose (Asks command) a = rw a (follows_part link command (form_of its payload) far (is_some_byte rest) number)
-follows past link state said number is (garbled f) = refl
-follows past link state said number is (wrong f p) = refl
-follows past link state said number is again = refl
-
--- what is due first of some links is said by one of them
-due_on_one : (past : List Item) (link : ℕ) (said : LinkStep) (some : List ℕ) → due_arrival some past ≡ Some (Comes link said)
-    → Says (linked link past) said
-due_on_one past link said [] due = absurd cc
-due_on_one past link said (first ∷ others) due =
-    elim (either (coming first (step (linked first past)).answer) (due_arrival others past) (Comes link said) due) [
-      | inl here ↦ by_said (step (linked first past)).answer (says (linked first past) (step (linked first past)).answer (never_logs_in first past) refl) here
-      | inr there ↦ due_on_one past link said others there
-    ]
-  where
-    its : (it : LinkStep) → Says (linked first past) it → Some (Comes first it) ≡ Some (Comes link said) → Says (linked link past) said
-    its it says e =
-        let same : first ≡ link = cc in
-        let also : it ≡ said = cc in
-        subst (λ (l : ℕ). Says (linked l past) said) same (subst (Says (linked first past)) also says)
-
-    by_said : (it : LinkStep) → (it ≡ steps.Idle) ⊎ Says (linked first past) it → coming first it ≡ Some (Comes link said)
-        → Says (linked link past) said
-    by_said steps.Idle it e = absurd cc
-    by_said (steps.Send bytes) (inl idle) e = absurd cc
-    by_said (steps.Send bytes) (inr it) e = its (steps.Send bytes) it e
-    by_said steps.LoggedIn (inl idle) e = absurd cc
-    by_said steps.LoggedIn (inr it) e = its steps.LoggedIn it e
-    by_said (steps.Part payload role progress next behind) (inl idle) e = absurd cc
-    by_said (steps.Part payload role progress next behind) (inr it) e = its (steps.Part payload role progress next behind) it e
-    by_said (steps.Lost cause) (inl idle) e = absurd cc
-    by_said (steps.Lost cause) (inr it) e = its (steps.Lost cause) it e
+follows : (link : ℕ) (said : LinkStep) (purpose : Option Purpose) (number : ℕ)
+    → owes_for link said (option_map asked_for purpose) number ≡ map erased (after_coming link said purpose number)
+follows link (steps.Part payload role far next behind) purpose number =
+    follows_asked link purpose (form_of role payload) far behind number
+follows link (steps.Lost cause) purpose number = refl
+follows link (steps.Send packets) purpose number = refl
+follows link steps.LoggedIn purpose number = refl
+follows link steps.Idle purpose number = refl
 
 pub read_nothing : (config : Config) (past : List Item) (old new : Kept) → Is config old past
     → new ≡ record old { state = record old.state { links = new.state.links } }
@@ -255,23 +298,25 @@ read_nothing config past old new is rest read = (
       (read.1 ∙ sym (ap (λ (s : State). s.links) is.mirrors)),
 )
 
-pub read_one : (config : Config) (past : List Item) (old mid new : Kept) (link : ℕ) (said : LinkStep) → Is config old past → owed past ≡ []
+pub read_one : (config : Config) (past : List Item) (old mid new : Kept) (found : Coming) → Is config old past → owed past ≡ []
     → mid ≡ record old { state = record old.state { links = mid.state.links } }
-    → ReadsFirst past (links past) (Some (link, said)) mid.state.links
-    → new ≡ record mid { state = record mid.state { owed = owes_for link said mid.state.reply_number ++ mid.state.owed } }
+    → ReadsFirst past (links past) (Some found) mid.state.links
+    → new ≡ record mid { state = record mid.state { owed = owes_for found.link found.said found.asked mid.state.reply_number ++ mid.state.owed } }
     → Went config (due_arrival (links past) past) past old new
-read_one config past old mid new link said is o rest first now =
-    let owes = follows past link (linked link past) said (reply_number past) refl (due_on_one past link said (links past) first.0) in
+read_one config past old mid new found is o rest first now =
+    let purpose : Option Purpose = asked_on found.link past in
+    let owes = ap (λ (asked : Option Asked). owes_for found.link found.said asked (reply_number past)) first.2
+    ∙ follows found.link found.said purpose (reply_number past) in
     record {
-      item = Comes link said;
+      item = Comes found.link found.said;
       is_due = first.0;
       made = record {
         number = ap (λ (k : Kept). k.number) now ∙ ap (λ (k : Kept). k.number) rest;
         outs = ap (λ (k : Kept). k.outs) now ∙ ap (λ (k : Kept). k.outs) rest ∙ sym (append-nil old.outs);
         state = ap (λ (k : Kept). k.state) now
-            ∙ ap (λ (k : Kept). record k.state { owed = owes_for link said k.state.reply_number ++ k.state.owed }) rest
-            ∙ ap (λ (s : State). record s { links = mid.state.links; owed = owes_for link said s.reply_number ++ s.owed }) is.mirrors
-            ∙ rw (o, first.2, append-nil (owes_for link said (reply_number past)), owes) refl;
+            ∙ ap (λ (k : Kept). record k.state { owed = owes_for found.link found.said found.asked k.state.reply_number ++ k.state.owed }) rest
+            ∙ ap (λ (s : State). record s { links = mid.state.links; owed = owes_for found.link found.said found.asked s.reply_number ++ s.owed }) is.mirrors
+            ∙ rw (o, first.3, append-nil (owes_for found.link found.said found.asked (reply_number past)), owes) refl;
       };
     }
 
@@ -282,7 +327,7 @@ pub busy : (config : Config) (past : List Item) (k : Kept) → Is config k past 
 busy config past k is some = by_pending (pending past) (rw is.mirrors at some)
   where
     by_pending : (command : Option Command) → is_some command ≡ true
-        → take_by command (first_payload config.command_bytes 0 (held config past)) ≡ None
+        → take_by command (step_of config.accounts (fronted config past)).0 ≡ None
     by_pending None e = absurd cc
     by_pending (Some command) e = refl
 
@@ -293,22 +338,13 @@ none_pending config past k is none = by_pending (pending past) refl (rw is.mirro
     by_pending None p e = p
     by_pending (Some command) p e = absurd cc
 
--- what the client's stream begins with is what the rule looks at
-begins_with : (config : Config) (past : List Item) (k : Kept) (found : Beginning) → Is config k past → owed past ≡ []
-    → is_over past ≡ false → next_of k.state.client 0 ≡ found → first_payload config.command_bytes 0 (held config past) ≡ found
-begins_with config past k found is o n e =
-    let sound = client_sound is.legal o n in
-    let e : unless_stopped (client_fault past) (first_payload config.command_bytes 0 (held config past)) ≡ found = rw is.mirrors at e in
-    rw sound at e
-
-pub took_nothing : (config : Config) (past : List Item) (old new : Kept) → Is config old past → owed past ≡ [] → is_over past ≡ false
-    → is_some old.state.pending ≡ false
-    → new ≡ record old { state = record old.state { client = new.state.client } } → HandsOut old.state.client 0 (Ok None) new.state.client
-    → (due_take config past ≡ None) × (new ≡ old)
-took_nothing config past old new is o n free rest out = (
-  rw (none_pending config past old is free, begins_with config past old Nothing is o n out.0) refl,
-  rest ∙ ap (λ (d : Deframing). record old { state = record old.state { client = d } }) out.1,
-)
+-- what the client's side says, and where it stands then, is what the rule and the record have
+says_so : (config : Config) (past : List Item) (k : Kept) (said : FrontStep) (front : Fronting) → Is config k past
+    → (said, front) ≡ step_of config.accounts k.state.front
+    → ((step_of config.accounts (fronted config past)).0 ≡ said) × ((step_of config.accounts (fronted config past)).1 ≡ front)
+says_so config past k said front is e =
+    let e : ◌≡◌ {A = FrontStep × Fronting} (said, front) (step_of config.accounts (fronted config past)) = rw is.mirrors at e in
+    (sym (ap (λ (p : FrontStep × Fronting). p.0) e), sym (ap (λ (p : FrontStep × Fronting). p.1) e))
 
 -- a command that is taken for this is pending, or none is
 pending_is : (past : List Item) (judgement : Judged) (number : ℕ) → pending_by judgement (pending past) ≡ pending (Takes judgement number ∷ past)
@@ -318,45 +354,121 @@ pending_is past (IsRefused error) number = refl
 pending_is past (Serves command) number = refl
 
 pub took : (config : Config) (past : List Item) (old mid new : Kept) (payload : Payload) → Is config old past → owed past ≡ []
-    → is_over past ≡ false → is_some old.state.pending ≡ false
-    → mid ≡ record old { state = record old.state { client = mid.state.client } }
-    → HandsOut old.state.client 0 (Ok (Some payload)) mid.state.client
+    → is_some old.state.pending ≡ false
+    → (fronts.Command payload, mid.state.front) ≡ step_of config.accounts old.state.front
+    → mid ≡ record old { state = stands_at mid.state.front old.state }
     → new ≡ record mid { state = takes (judged payload.bytes payload.next) payload.next mid.state }
     → Went config (due_take config past) past old new
-took config past old mid new payload is o n free rest out now =
+took config past old mid new payload is o free says rest now =
     let judgement = judged payload.bytes payload.next in
-    let first = begins_with config past old (Whole payload.bytes payload.next mid.state.client.held) is o n out.0 in
+    let it = says_so config past old (fronts.Command payload) mid.state.front is says in
     record {
       item = Takes judgement payload.next;
-      is_due = rw (none_pending config past old is free, first) refl;
+      is_due = rw (none_pending config past old is free, it.0) refl;
       made = record {
         number = ap (λ (k : Kept). k.number) now ∙ ap (λ (k : Kept). k.number) rest;
         outs = ap (λ (k : Kept). k.outs) now ∙ ap (λ (k : Kept). k.outs) rest ∙ sym (append-nil old.outs);
         state = ap (λ (k : Kept). k.state) now
             ∙ ap (λ (k : Kept). takes judgement payload.next k.state) rest
-            ∙ ap (λ (d : Deframing). takes judgement payload.next (record old.state { client = d })) out.1
-            ∙ ap (λ (s : State). takes judgement payload.next (record s { client = record s.client { held = mid.state.client.held } })) is.mirrors
-            ∙ rw (o, append-nil (map erased (after_command judgement payload.next)), first, pending_is past judgement payload.next) refl;
+            ∙ ap (λ (s : State). takes judgement payload.next (stands_at mid.state.front s)) is.mirrors
+            ∙ rw (o, append-nil (map erased (after_command judgement payload.next)), it.1, pending_is past judgement payload.next) refl;
       };
     }
 
-pub took_fault : (config : Config) (past : List Item) (old mid new : Kept) (fault : WireFault) → Is config old past → owed past ≡ []
-    → is_over past ≡ false → is_some old.state.pending ≡ false
-    → mid ≡ record old { state = record old.state { client = mid.state.client } }
-    → HandsOut old.state.client 0 (Err (Fault fault)) mid.state.client
-    → new ≡ record mid { state = owes (after_fault fault) mid.state } → Went config (due_take config past) past old new
-took_fault config past old mid new fault is o n free rest out now =
-    let first = begins_with config past old (Faulty fault) is o n out.0 in
+-- it says nothing
+pub took_nothing : (config : Config) (past : List Item) (old new : Kept) → Is config old past → is_some old.state.pending ≡ false
+    → (fronts.Idle, new.state.front) ≡ step_of config.accounts old.state.front
+    → new ≡ record old { state = stands_at new.state.front old.state } → (due_take config past ≡ None) × (new ≡ old)
+took_nothing config past old new is free says rest =
+    let it = says_so config past old fronts.Idle new.state.front is says in
+    let stays : new.state.front ≡ fronted config past = sym it.1 ∙ idle_stays config.accounts (fronted config past) it.0 in
+    let was : record (state_of config past) { front = fronted config past } ≡ old.state = sym is.mirrors in (
+      rw (none_pending config past old is free, it.0) refl,
+      rest ∙ ap (λ (s : State). record old { state = s })
+          (ap (λ (s : State). stands_at new.state.front s) is.mirrors
+          ∙ ap (λ (front : Fronting). stands_at front (state_of config past)) stays ∙ was),
+    )
+
+-- it says something else
+connecting_due : (said : FrontStep) → IsConnecting said → taking said ≡ Some (Connects said)
+connecting_due (fronts.Send packets) c = refl
+connecting_due (fronts.LoggedIn login) c = refl
+connecting_due (fronts.End packets reason) c = refl
+connecting_due fronts.Idle c = absurd (by_case fronts.Idle refl c)
+  where
+    by_case : (said : FrontStep) → said ≡ fronts.Idle → IsConnecting said → ⊥
+    by_case said e sends_back = cc
+    by_case said e lets_in = cc
+    by_case said e ends_it = cc
+connecting_due (fronts.Command payload) c = absurd (by_case (fronts.Command payload) refl c)
+  where
+    by_case : (said : FrontStep) → said ≡ fronts.Command payload → IsConnecting said → ⊥
+    by_case said e sends_back = cc
+    by_case said e lets_in = cc
+    by_case said e ends_it = cc
+
+pub connected : (config : Config) (past : List Item) (old mid new : Kept) (said : FrontStep) → Is config old past → owed past ≡ []
+    → is_some old.state.pending ≡ false → IsConnecting said
+    → (said, mid.state.front) ≡ step_of config.accounts old.state.front
+    → mid ≡ record old { state = stands_at mid.state.front old.state }
+    → new ≡ record mid { state = connects said mid.state } → Went config (due_take config past) past old new
+connected config past old mid new said is o free connecting says rest now =
+    let it = says_so config past old said mid.state.front is says in
     record {
-      item = TakesFault fault;
-      is_due = rw (none_pending config past old is free, first) refl;
+      item = Connects said;
+      is_due = rw (none_pending config past old is free, it.0) (connecting_due said connecting);
       made = record {
         number = ap (λ (k : Kept). k.number) now ∙ ap (λ (k : Kept). k.number) rest;
         outs = ap (λ (k : Kept). k.outs) now ∙ ap (λ (k : Kept). k.outs) rest ∙ sym (append-nil old.outs);
         state = ap (λ (k : Kept). k.state) now
-            ∙ ap (λ (k : Kept). owes (after_fault fault) k.state) rest
-            ∙ ap (λ (d : Deframing). owes (after_fault fault) (record old.state { client = d })) out.1
-            ∙ ap (λ (s : State). owes (after_fault fault) (record s { client = record s.client { stopped = Some fault } })) is.mirrors
-            ∙ rw (o, append-nil (map erased (after_fault fault))) refl;
+            ∙ ap (λ (k : Kept). connects said k.state) rest
+            ∙ ap (λ (s : State). connects said (stands_at mid.state.front s)) is.mirrors
+            ∙ rw (o, append-nil (map erased (after_connecting said)), it.1) refl;
       };
     }
+
+-- what is taken up has nothing to do with that number
+counts_later : (said : FrontStep) (went : Bool) (old new : Kept) → TakesSaid said went old new
+    → TakesSaid said went (recounted old) (recounted new)
+counts_later fronts.Idle false old new now = ap recounted now
+counts_later fronts.Idle true old new now = absurd now
+counts_later (fronts.Command payload) true old new now = ap recounted now
+counts_later (fronts.Command payload) false old new now = absurd now
+counts_later (fronts.Send packets) true old new now = ap recounted now
+counts_later (fronts.Send packets) false old new now = absurd now
+counts_later (fronts.LoggedIn login) true old new now = ap recounted now
+counts_later (fronts.LoggedIn login) false old new now = absurd now
+counts_later (fronts.End packets reason) true old new now = ap recounted now
+counts_later (fronts.End packets reason) false old new now = absurd now
+
+-- what it said was taken up
+by_said : (config : Config) (past : List Item) (old mid new : Kept) (said : FrontStep) (went : Bool)
+    → Is config old past → owed past ≡ [] → is_some old.state.pending ≡ false
+    → (said, mid.state.front) ≡ step_of config.accounts old.state.front
+    → mid ≡ record old { state = stands_at mid.state.front old.state }
+    → TakesSaid said went mid new → Tries config (due_take config past) past went old new
+by_said config past old mid new fronts.Idle false is o free says rest now =
+    let none = took_nothing config past old mid is free says rest in (none.0, now ∙ none.1)
+by_said config past old mid new fronts.Idle true is o free says rest now = absurd now
+by_said config past old mid new (fronts.Command payload) true is o free says rest now =
+    took config past old mid new payload is o free says rest now
+by_said config past old mid new (fronts.Command payload) false is o free says rest now = absurd now
+by_said config past old mid new (fronts.Send packets) true is o free says rest now =
+    connected config past old mid new (fronts.Send packets) is o free sends_back says rest now
+by_said config past old mid new (fronts.Send packets) false is o free says rest now = absurd now
+by_said config past old mid new (fronts.LoggedIn login) true is o free says rest now =
+    connected config past old mid new (fronts.LoggedIn login) is o free lets_in says rest now
+by_said config past old mid new (fronts.LoggedIn login) false is o free says rest now = absurd now
+by_said config past old mid new (fronts.End packets reason) true is o free says rest now =
+    connected config past old mid new (fronts.End packets reason) is o free ends_it says rest now
+by_said config past old mid new (fronts.End packets reason) false is o free says rest now = absurd now
+
+pub took_said : (config : Config) (past : List Item) (old mid later new : Kept) (said : FrontStep) (went : Bool)
+    → Is config old past → owed past ≡ [] → is_some old.state.pending ≡ false
+    → (said, mid.state.front) ≡ step_of config.accounts old.state.front
+    → mid ≡ record old { state = record old.state { front = mid.state.front } }
+    → TakesSaid said went mid later → new ≡ recounted later → Tries config (due_take config past) past went old new
+took_said config past old mid later new said went is o free says rest takes now =
+    subst (Tries config (due_take config past) past went old) (sym now)
+    (by_said config past old (recounted mid) (recounted later) said went is o free says (ap recounted rest)
+    (counts_later said went mid later takes))

@@ -10,7 +10,7 @@ use Rattle.rws_session.specs.Kept.{Kept}
 -- Of the client no more than a command and the room beside it; of each link less than the longest payload of a server takes
 -- on the wire: 67,108,864 bytes and the headers of its five packets.
 pub record HoldsFew (config : Config) (k : Kept) : Type 0 where
-  pub client : length k.state.client.held ≤ config.command_bytes + FLOOD_ROOM
+  pub client : length k.state.front.stream.held ≤ config.command_bytes + FLOOD_ROOM
   pub links : All (λ (link : NumberedLink). length (held_of link.link) < spelled_length SERVER_PAYLOAD) k.state.links
 
 -- while it goes on; one that is over is to be forgotten

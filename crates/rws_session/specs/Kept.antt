@@ -1,11 +1,12 @@
 -- For which records a session stands.
-use Rattle.std.specs.Prelude.{◌≡◌, ℕ, Bool, List, None, map}
+use Rattle.std.specs.Prelude.{◌≡◌, ℕ, Bool, true, false, List, [], ◌∷◌, Some, None, map}
 use Rattle.rws_board.specs.declared.action.Action.{Action}
 use Rattle.rws_config.specs.declared.config.Config.{Config}
 use Rattle.rws_record.specs.Item.{Item}
 use Rattle.rws_record.specs.Rules.{next}
-use Rattle.rws_record.specs.Values.{is_over, links as links_of}
-use Rattle.rws_record.specs.Record.{IsRecord}
+use Rattle.rws_native.specs.declared.login.Login.{Login}
+use Rattle.rws_record.specs.Values.{asking, is_over, links as links_of}
+use Rattle.rws_record.specs.Record.{IsRecord, want_number}
 use Rattle.rws_session.specs.State.{State, farewell_packet, number_of, state_of}
 
 pub record Kept : Type 0 where
@@ -20,10 +21,28 @@ pub record Is (config : Config) (k : Kept) (past : List Item) : Type 0 where
   pub mirrors : k.state ≡ state_of config past
   pub legal : IsRecord config past
 
--- between two turns the record rests as well
+-- between two turns the record rests as well, and waits for no answer
 pub record Stands (config : Config) (k : Kept) (past : List Item) : Type 0 where
   pub is : Is config k past
   pub rests : next config past ≡ None
+  pub unasking : asking past ≡ None
+
+-- or it waits for the worker's answer
+pub record Asking (config : Config) (k : Kept) (past : List Item) : Type 0 where
+  pub is : Is config k past
+  pub login : Login
+  pub asks : asking past ≡ Some login
+
+-- one of both, as the session says
+abbrev pub StandsOr : (asks : Bool) → Config → Kept → List Item → Type 0
+StandsOr true config k past = Asking config k past
+StandsOr false config k past = Stands config k past
+
+-- a session was made, and began so
+pub record Starts (config : Config) (item : Item) (session : ℕ) (k : Kept) : Type 0 where
+  pub number : k.number ≡ session
+  pub outs : k.outs ≡ []
+  pub is : Is config k (item ∷ [])
 
 -- Where memory was wanting
 
@@ -38,15 +57,29 @@ pub record Lasting : Type 0 where
   pub links : List ℕ
   pub over : Bool
   pub farewell : List ℕ
+  pub want_number : ℕ
 
 abbrev pub lasting : Kept → Lasting
-lasting k = record { number = k.number; outs = k.outs; links = numbers k; over = k.state.over; farewell = k.state.farewell }
+lasting k = record {
+  number = k.number;
+  outs = k.outs;
+  links = numbers k;
+  over = k.state.over;
+  farewell = k.state.farewell;
+  want_number = k.state.want_number;
+}
 
 -- it is as it was, and all else may be spoilt
 abbrev pub Holds : Kept → Kept → Type 0
 Holds old new = lasting new ≡ lasting old
 
 -- what lasts of a session that stands for a record
-abbrev pub lasting_of : ℕ → List Action → List Item → Lasting
-lasting_of number outs past =
-    record { number = number; outs = outs; links = links_of past; over = is_over past; farewell = farewell_packet }
+abbrev pub lasting_of : Config → ℕ → List Action → List Item → Lasting
+lasting_of config number outs past = record {
+  number = number;
+  outs = outs;
+  links = links_of past;
+  over = is_over past;
+  farewell = farewell_packet;
+  want_number = want_number config past;
+}

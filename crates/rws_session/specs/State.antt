@@ -1,25 +1,32 @@
 -- What a session keeps of its record: a value for each thing that its later steps depend on.
-use Rattle.std.specs.Prelude.{ℕ, Bool, List, map, Option, Some, None}
-use Rattle.rws_wire.specs.Deframing.{Deframing}
+use Rattle.std.specs.Prelude.{ℕ, Bool, List, ◌∷◌, map, Option, Some, None}
+use Rattle.std.specs.Option.{option_map}
 use Rattle.rws_wire.specs.Packets.{spelling}
 use Rattle.rws_msgs.specs.ErrLayout.{err_bytes}
+use Rattle.rws_native.specs.declared.login.Login.{Login}
+use Rattle.rws_front.specs.Fronting.{Fronting}
 use Rattle.rws_link.specs.Linking.{kept}
 use Rattle.rws_config.specs.declared.config.Config.{Config}
 use Rattle.rws_record.specs.declared.command.Command.{Command}
 use Rattle.rws_record.specs.declared.proxy_error.ProxyError.TheVariants.{OutOfMemory}
-use Rattle.rws_record.specs.Item.{Item, Put}
-use Rattle.rws_record.specs.Item.Put.{Tells, Sends, Drops, Closes}
+use Rattle.rws_record.specs.Item.{Item, Purpose, Put}
+use Rattle.rws_record.specs.Item.Purpose.{Prepares, Asks}
+use Rattle.rws_record.specs.Item.Put.{Hands, Tells, Routes, Opens, LogsInto, Sends, Drops, Closes}
 use Rattle.rws_record.specs.Item.Tell.{Passes, Owns, Refuses}
-use Rattle.rws_record.specs.Values.{held, client_fault, links, server_of, kept_on, linked, pending, sent_on, reply_number, told_from, is_over}
+use Rattle.rws_record.specs.Record.{want_number}
+use Rattle.rws_record.specs.Values.{asked_on, asking, fronted, is_over, is_up, kept_on, linked, links, login_of, pending, reply_number, sent_on, server_of, told_from}
 use Rattle.rws_record.specs.Rules.{owed}
 use Rattle.rws_record.specs.Errors.{error_of}
+use Rattle.rws_session.specs.declared.links.Asked.{Asked}
+use Rattle.rws_session.specs.declared.links.Asked.TheVariants.{Preamble, Command as ACommand}
 use Rattle.rws_session.specs.declared.links.NumberedLink.{NumberedLink}
 use Rattle.rws_session.specs.declared.owing.Out.{Out}
 use Rattle.rws_session.specs.declared.owing.Out.TheVariants as outs
 
 pub record State : Type 0 where
-  -- the client's bytes that aren't taken up
-  pub client : Deframing
+  -- the client's side, with its bytes that aren't taken up, and the login that it handed out
+  pub front : Fronting
+  pub login : Option Login
   -- the links, in order of number
   pub links : List NumberedLink
   -- the link that the session is kept on
@@ -30,15 +37,22 @@ pub record State : Type 0 where
   pub told_from : Option ℕ
   -- the number of the packet that the client gets next in the command's reply
   pub reply_number : ℕ
+  -- the worker was asked where the pending command is to go; a link for it is to log in so
+  pub asking : Option Login
   -- the session is closed, or its client is gone
   pub over : Bool
   -- what is to be given out before anything else; None would be something that never waits
   pub owed : List (Option Out)
-  -- the packet that tells the client that memory was wanting
+  -- the packet that tells the client that memory was wanting, and the number that it is to have
   pub farewell : List ℕ
+  pub want_number : ℕ
 
--- what code needs to know of something that is owed: a command is sent as soon as that is due, and never owed
+-- what code needs to know of something that is owed: the worker is asked, and a command is sent, as soon as that is due
 abbrev pub erased : Put → Option Out
+erased (Hands packets) = Some (outs.Hand packets)
+erased (Routes login) = None
+erased (Opens link server login) = Some (outs.Open link server login)
+erased (LogsInto link packets) = Some (outs.LogIn link packets)
 erased (Tells number (Passes link command payload outcome)) = Some (outs.Pass number link payload outcome)
 erased (Tells number (Owns status)) = Some (outs.Own number status)
 erased (Tells number (Refuses error)) = Some (outs.Refuse number error)
@@ -46,9 +60,20 @@ erased (Sends link purpose) = None
 erased (Drops link cause) = Some (outs.Drop link cause)
 erased (Closes reason) = Some (outs.Close reason)
 
+-- what code needs to know of why something was sent on a link
+abbrev pub asked_for : Purpose → Asked
+asked_for Prepares = Preamble
+asked_for (Asks command) = ACommand
+
 -- a link by its number
 abbrev pub link_of : List Item → ℕ → NumberedLink
-link_of past number = record { number = number; server = server_of number past; link = kept (linked number past) }
+link_of past number = record {
+  number = number;
+  server = server_of number past;
+  is_up = is_up number past;
+  asked = option_map asked_for (asked_on number past);
+  link = kept (linked number past);
+}
 
 abbrev pub number_of : NumberedLink → ℕ
 number_of link = link.number
@@ -57,17 +82,25 @@ number_of link = link.number
 abbrev pub farewell_packet : List ℕ
 farewell_packet = spelling 1 (err_bytes (error_of OutOfMemory))
 
+-- a packet with this number
+abbrev pub numbered : ℕ → List ℕ → List ℕ
+numbered number (a ∷ b ∷ c ∷ before ∷ rest) = a ∷ b ∷ c ∷ number ∷ rest
+numbered number packet = packet
+
 -- what a session keeps of a record: each value under its name
 abbrev pub state_of : Config → List Item → State
 state_of config past = record {
-  client = record { limit = config.command_bytes; held = held config past; stopped = client_fault past };
+  front = fronted config past;
+  login = login_of past;
   links = map (link_of past) (links past);
   kept_on = kept_on past;
   pending = pending past;
   sent_on = sent_on past;
   told_from = told_from past;
   reply_number = reply_number past;
+  asking = asking past;
   over = is_over past;
   owed = map erased (owed past);
   farewell = farewell_packet;
+  want_number = want_number config past;
 }

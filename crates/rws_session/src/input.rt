@@ -9,6 +9,8 @@ pub enum SessionInput {
     Client(Text),
     /// The client closed its connection.
     ClientGone,
+    /// An opening link counts as ready, if no byte of it came.
+    Ready { link: u64 },
     /// Bytes came on a link.
     Link { link: u64, bytes: Text },
     /// The server closed the link.

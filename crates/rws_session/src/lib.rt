@@ -3,6 +3,7 @@
 
 mod input;
 mod links;
+mod login;
 mod owing;
 mod session;
 #[cfg(test)]

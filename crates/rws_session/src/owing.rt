@@ -1,5 +1,6 @@
 //! What a session owes: it is decided on, and given out in later steps of the same turn.
 
+use crate::login::LinkLogin;
 use rws_record::ProxyError;
 use rws_reply::Outcome;
 use rws_wire::{CloseReason, DropCause, Text};
@@ -7,6 +8,21 @@ use rws_wire::{CloseReason, DropCause, Text};
 /// Something to be given out, with all that is needed for it.
 #[derive(Drop)]
 pub(crate) enum Out {
+    /// Packets go to the client as they are.
+    Hand {
+        packets: Text,
+    },
+    /// A link to this server is opened, and logs in so.
+    Open {
+        link: u64,
+        server: u8,
+        login: LinkLogin,
+    },
+    /// Packets of its login go on a link as they are.
+    LogIn {
+        link: u64,
+        packets: Text,
+    },
     /// A payload of the reply that `link` gives goes to the client, in packets from `number` on. `outcome` says how the
     /// reply ended, at its last payload.
     Pass {

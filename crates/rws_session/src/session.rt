@@ -1,31 +1,37 @@
 //! A session, and what it keeps of its record.
 //!
 //! Between any two steps its state is that of its record (`state_of` of specs/State.antt), also while outputs are owed.
-ghost use Rattle.std.specs.Prelude.{◌≡◌, ◌∷◌, List, [], Some, None, IfOk, OnOk, MatchOption, OnErr, ◌==◌, length, is_some, ◌&&◌};
+ghost use Rattle.std.specs.Prelude.{◌≡◌, ◌∷◌, List, [], Some, None, IfOk, OnOk, MatchOption, OnErr, ◌==◌, length, is_some, ◌&&◌, false};
 ghost use Rattle.std.specs.List.{list_any};
 ghost use Rattle.rws_link.specs.Linking.{is_awaiting};
-ghost use Rattle.rws_session.specs.State.{farewell_packet};
+ghost use Rattle.rws_session.specs.State.{numbered};
 
+mod beginning;
 mod giving;
 mod hearing;
+mod reading;
 mod steps;
+mod taking;
 
 use crate::SessionInput;
 use crate::links::LinkTable;
+use crate::login::LinkLogin;
 use crate::owing::Out;
 use rws_board::Action;
 use rws_config::Config;
-use rws_record::{Command, ProxyError};
-use rws_wire::{Deframer, Text, frame};
+use rws_front::Front;
+use rws_record::Command;
+use rws_wire::Text;
 use std::alloc::{AllocError, Global};
 use std::collections::VecDeque;
 use std::marker::Model;
 use std::mem;
 
-/// One client's session in the command phase, kept on one link to a server.
+/// One client's session, from the greeting to the end, kept on one link to a server.
 ///
-/// It answers what it can by itself, passes commands on and replies back, and gives up with a reason where it can't go on.
-/// What it gives out waits to be fetched by [`Session::next_out`]; before a turn all of it is to be fetched.
+/// It lets the client in, answers what it can by itself, passes commands on and replies back, and gives up with a reason where it
+/// can't go on. Its link repeats the client's login at the server. What it gives out waits to be fetched by
+/// [`Session::next_out`].
 ///
 /// Where memory is wanting in a turn the session ends: what it gave out is fetched, then its client is told by
 /// [`Session::farewell`] and the session closed, unless it is over, and the links that it has left are given up, which
@@ -36,8 +42,10 @@ pub struct Session {
     number: u32,
     /// What was given out and isn't fetched yet.
     outs: VecDeque<Action>,
-    /// What the client sent.
-    client: Deframer,
+    /// The client's side.
+    front: Front,
+    /// The login that its links repeat, once it has logged in.
+    login: Option<LinkLogin>,
     links: LinkTable,
     /// The link that the session is kept on.
     kept_on: Option<u64>,
@@ -49,12 +57,15 @@ pub struct Session {
     told_from: Option<u64>,
     /// The number of the packet that the client gets next in its reply.
     reply_number: u8,
+    /// The worker was asked where the pending command is to go; a link for it is to log in so.
+    asking: Option<LinkLogin>,
     /// The session is closed, or its client is gone.
     over: bool,
     /// What is to be given out before anything else is done.
     owed: VecDeque<Out>,
-    /// The packet that tells the client that memory was wanting, made while it was there.
-    farewell: Text,
+    /// The packet that tells the client that memory was wanting, made while it was there; its number is to be this one.
+    farewell: Vec<u8>,
+    want_number: u8,
 }
 
 impl Model for Session {
@@ -67,16 +78,19 @@ impl Model for Session {
       number = s.number;
       outs = s.outs.items;
       state = record {
-        client = s.client;
+        front = s.front;
+        login = s.login;
         links = s.links;
         kept_on = s.kept_on;
         pending = s.pending;
         sent_on = s.sent_on;
         told_from = s.told_from;
         reply_number = s.reply_number;
+        asking = s.asking;
         over = s.over;
         owed = map Some s.owed.items;
-        farewell = s.farewell;
+        farewell = s.farewell.items;
+        want_number = s.want_number;
       };
     } };
 }
@@ -84,70 +98,78 @@ impl Model for Session {
 impl Session {
     ghost use Rattle.rws_config.specs.declared.config.Config.{Config};
     ghost use Rattle.rws_record.specs.Item.{Item};
-    ghost use Rattle.rws_record.specs.Item.Item.{Began};
     ghost use Rattle.rws_config.specs.Allowed.{IsAllowed};
     ghost use Rattle.rws_record.specs.Values.{contains, exchange, held, is_over, links};
     ghost use Rattle.rws_session.specs.Bounds.{IsBounded};
-    ghost use Rattle.rws_session.specs.Kept.{Is, Kept, Stands};
+    ghost use Rattle.rws_session.specs.Kept.{Asking, Holds, Is, Kept, Stands};
     ghost use Rattle.rws_session.specs.Kept.{numbers};
-    ghost use Rattle.rws_session.specs.Turning.{Breaks, Turns, heard};
+    ghost use Rattle.rws_session.specs.Turning.{Breaks, BreaksOff, Opens, Settles, Turns, heard};
     ghost use Rattle.rws_session.specs.Steps.{Rests, Stops};
 
-    /// A session in the command phase, kept on a ready link to a server of the settings.
-    pub fn begin(
-        alloc: Global,
-        number: u32,
-        server: u8,
-        link: u64,
-        config: &Config,
-    ) -> Result<Session, AllocError>
-        ensures { IfOk result (λ s. (s.number ≡ number) × (s.outs ≡ []) × Stands config.now s (Began link server ∷ [])) }
-    {
-        Ok(Session {
-            alloc,
-            number,
-            outs: VecDeque::new(alloc),
-            client: Deframer::new(alloc, config.command_bytes),
-            links: LinkTable::begin(alloc, link, server)?,
-            kept_on: Some(link),
-            pending: None,
-            sent_on: None,
-            told_from: None,
-            reply_number: 0,
-            over: false,
-            owed: VecDeque::new(alloc),
-            farewell: reserve_farewell(alloc)?,
-        })
-    }
+    /// One turn: the session hears the input, and goes on until it rests, or asks where its pending command is to go; which of
+    /// both it is. `Err` is want of memory; a turn of 2^64 steps would end so too, which nobody lives to see.
+    pub fn turn(&mut self, input: SessionInput, config: &Config) -> Result<bool, AllocError>
+        ensures turns { (past : List Item) → Stands config.now self.old past
+            → IfOk result (λ asks. Turns config.now (heard input past) past self.old self.new asks) }
 
-    /// One turn: the session hears the input, and goes on until it rests. Before a turn all that was given out is to be
-    /// fetched. `Err` is want of memory; a turn of 2^64 steps would end so too, which nobody lives to see.
-    pub fn turn(&mut self, input: SessionInput) -> Result<(), AllocError>
-        requires { self.old.outs ≡ [] }
-        ensures turns { (config : Config) (past : List Item) → Stands config self.old past
-            → OnOk result (Turns config (heard input past) past self.old self.new) }
-
-        ensures err { (config : Config) (past : List Item) → Stands config self.old past
-            → OnErr result (Breaks config (heard input past) past self.old self.new) }
+        ensures err { (past : List Item) → Stands config.now self.old past
+            → OnErr result (Breaks config.now (heard input past) past self.old self.new) }
 
         // What came and isn't answered is bounded, whatever a client or a server sends.
-        ensures bounded { (config : Config) (past : List Item) → Stands config self.old past → IsAllowed config
-            → OnOk result (IsBounded config self.new) }
+        ensures bounded { (past : List Item) → Stands config.now self.old past → IsAllowed config.now
+            → IfOk result (λ asks. asks ≡ false → IsBounded config.now self.new) }
     {
         if self.hear(input)? {
-            return self.settle();
+            return self.start(config);
         }
-        Ok(())
+        Ok(false)
     }
 
-    /// Goes on until the session rests.
-    fn settle(&mut self) -> Result<(), AllocError>
-        ensures ok { (config : Config) (past : List Item) → Is config self.old past → OnOk result (Rests config past self.old self.new) }
-        ensures err { (config : Config) (past : List Item) → Is config self.old past → OnErr result (Stops config past self.old self.new) }
+    /// Goes on until the session rests, or asks where its pending command is to go; which of both it is. So a session starts
+    /// that was just made. `Err` is want of memory.
+    pub fn start(&mut self, config: &Config) -> Result<bool, AllocError>
+        ensures ok { (past : List Item) → Is config.now self.old past
+            → IfOk result (λ asks. Settles config.now past self.old self.new asks) }
+        ensures err { (past : List Item) → Is config.now self.old past → OnErr result (BreaksOff config.now past self.old self.new) }
+        ensures bounded { (past : List Item) → Is config.now self.old past → IsAllowed config.now
+            → IfOk result (λ asks. asks ≡ false → IsBounded config.now self.new) }
+    {
+        self.settle(config)
+    }
+
+    /// The worker's answer to a session that asked: its pending command goes on a new link of this number to this server. The
+    /// link is opened; [`Session::start`] goes on from there, and asks for nothing more.
+    pub fn open_link(&mut self, link: u64, server: u8) -> Result<(), AllocError>
+        ensures ok { (config : Config) (past : List Item) → Asking config self.old past
+            → OnOk result (Opens config link server past self.old self.new) }
+        ensures err { OnErr result (Holds self.old self.new) }
+    {
+        match self.take_asking() {
+            None => Ok(()),
+            Some(login) => self.give(Out::Open {
+                link,
+                server,
+                login,
+            }),
+        }
+    }
+
+    /// What the worker was asked, and is asked no more.
+    fn take_asking(&mut self) -> Option<LinkLogin>
+        ensures taken { result ≡ self.old.state.asking }
+        ensures rest { self.new ≡ record self.old { state = record self.old.state { asking = None } } }
+    {
+        mem::take(&mut self.asking)
+    }
+
+    /// Goes on until the session rests, or asks; which of both it is.
+    fn settle(&mut self, config: &Config) -> Result<bool, AllocError>
+        ensures ok { (past : List Item) → Is config.now self.old past → IfOk result (λ asks. Rests config.now past self.old self.new asks) }
+        ensures err { (past : List Item) → Is config.now self.old past → OnErr result (Stops config.now past self.old self.new) }
     {
         for _ in 0..u64::MAX {
-            if !self.step()? {
-                return Ok(());
+            if !self.step(config)? {
+                return Ok(self.is_asking());
             }
         }
         Err(AllocError)
@@ -165,10 +187,14 @@ impl Session {
     /// The packet that tells the client that memory was wanting. It is there once, from the session's beginning on, and is given
     /// without taking memory.
     pub fn farewell(&mut self) -> Text
-        ensures given { result ≡ self.old.state.farewell }
+        ensures given { result ≡ numbered self.old.state.want_number self.old.state.farewell }
         ensures rest { self.new ≡ record self.old { state = record self.old.state { farewell = [] } } }
     {
-        mem::replace(&mut self.farewell, Text::empty(self.alloc))
+        let mut packet = mem::replace(&mut self.farewell, Vec::new(self.alloc));
+        if let Some(number) = packet.get_mut(3) {
+            *number = self.want_number;
+        }
+        Text::new(packet)
     }
 
     /// Takes the session's first link away, in order of number, without taking memory.
@@ -213,7 +239,7 @@ impl Session {
     pub fn unanswered(&self) -> u64
         ensures { (config : Config) (past : List Item) → Stands config self.now past → result ≡ length (held config past) }
     {
-        self.client.held()
+        self.front.held()
     }
 
     /// The session was closed, or its client is gone.
@@ -230,13 +256,4 @@ impl Session {
     {
         self.over
     }
-}
-
-/// The packet that tells the client that memory was wanting.
-fn reserve_farewell(alloc: Global) -> Result<Text, AllocError>
-    ensures { IfOk result (λ packet. packet ≡ farewell_packet) }
-{
-    let mut packet = Vec::new(alloc);
-    frame(ProxyError::OutOfMemory.payload(), 1, &mut packet)?;
-    Ok(Text::new(packet))
 }

@@ -1,12 +1,10 @@
 //! Sessions from their first command to their end, with ample memory.
 
-ghost use Rattle.std.specs.Prelude.{◌≡◌, [], OnOk};
-
 use super::*;
 use rws_board::Action;
-use rws_config::{COMMAND_BYTES, FLOOD_ROOM, built_in};
+use rws_config::{COMMAND_BYTES, Config, FLOOD_ROOM, built_in};
 use rws_wire::Text;
-use std::alloc::AllocError;
+use std::alloc::{AllocError, Global};
 use std::test::Fail;
 
 /// A result of one row, in packets from number 1 on: the number of columns, a definition, an EOF, the row, an EOF.
@@ -38,9 +36,7 @@ const TURNS: [(bool, &[u8], &[u8], &[u8]); 7] = [
 ];
 
 /// Fetches all that was given out: the bytes for the client and for the link, and how many outputs there were.
-fn fetch(session: &mut Session, told: &mut Vec<u8>, sent: &mut Vec<u8>) -> Result<u8, AllocError>
-    ensures { OnOk result (session.new.outs ≡ []) }
-{
+fn fetch(session: &mut Session, told: &mut Vec<u8>, sent: &mut Vec<u8>) -> Result<u8, AllocError> {
     for count in 0..u8::MAX {
         match session.next_out() {
             None => return Ok(count),
@@ -65,7 +61,7 @@ fn session(rt: HostRuntime) -> Result<(), Fail> {
         } else {
             SessionInput::Link { link: 1, bytes }
         };
-        session.turn(input)?;
+        session.turn(input, &config)?;
         let mut told = Vec::new(rt.alloc());
         let mut sent = Vec::new(rt.alloc());
         fetch(&mut session, &mut told, &mut sent)?;
@@ -75,7 +71,7 @@ fn session(rt: HostRuntime) -> Result<(), Fail> {
     }
     assert!(rt; session.awaits(1) && !session.awaits(2));
     let bytes = Text::from_slice(rt.alloc(), &RESULT[5..])?;
-    session.turn(SessionInput::Link { link: 1, bytes })?;
+    session.turn(SessionInput::Link { link: 1, bytes }, &config)?;
     let count = fetch(
         &mut session,
         &mut Vec::new(rt.alloc()),
@@ -91,29 +87,49 @@ const COMMAND: &[u8] = b"\x02\0\0\0\x03x";
 
 const TOO_LARGE: &[u8] = b"\x1a\0\0\x01\xff\x81\x04#08S01command too large";
 
+/// The settings by which a client may send the least ahead.
+fn narrow(alloc: Global) -> Result<Config, AllocError> {
+    let mut config = built_in(alloc)?;
+    config.command_bytes = COMMAND_BYTES.least;
+    Ok(config)
+}
+
+/// Hands in what the client sends: how many outputs there were, and the bytes for the client.
+fn hear(
+    alloc: Global,
+    session: &mut Session,
+    bytes: Text,
+    config: &Config,
+) -> Result<(u8, Vec<u8>), AllocError> {
+    session.turn(SessionInput::Client(bytes), config)?;
+    let mut told = Vec::new(alloc);
+    let count = fetch(session, &mut told, &mut Vec::new(alloc))?;
+    Ok((count, told))
+}
+
+/// A session that awaits a reply, and as many bytes behind its command as it holds unanswered.
+fn full(alloc: Global, config: &Config) -> Result<Session, AllocError> {
+    let mut session = Session::begin(alloc, 7, 0, 1, config)?;
+    hear(
+        alloc,
+        &mut session,
+        Text::from_slice(alloc, COMMAND)?,
+        config,
+    )?;
+    let behind = vec![in alloc; 0; (config.command_bytes + FLOOD_ROOM) as usize]?;
+    hear(alloc, &mut session, Text::new(behind), config)?;
+    Ok(session)
+}
+
 #[test]
 fn floods(rt: HostRuntime) -> Result<(), Fail> {
-    let mut config = built_in(rt.alloc())?;
-    config.command_bytes = COMMAND_BYTES.least;
-    let mut session = Session::begin(rt.alloc(), 7, 0, 1, &config)?;
-    let command = Text::from_slice(rt.alloc(), COMMAND)?;
-    session.turn(SessionInput::Client(command))?;
-    fetch(
-        &mut session,
-        &mut Vec::new(rt.alloc()),
-        &mut Vec::new(rt.alloc()),
-    )?;
-    let most = COMMAND_BYTES.least + FLOOD_ROOM;
-    let behind = vec![in rt.alloc(); 0; most as usize]?;
-    session.turn(SessionInput::Client(Text::new(behind)))?;
-    let mut told = Vec::new(rt.alloc());
-    let mut sent = Vec::new(rt.alloc());
-    assert_eq!(rt; fetch(&mut session, &mut told, &mut sent)?, 0);
-    assert!(rt; session.unanswered() == most && session.awaits(1));
+    let config = narrow(rt.alloc())?;
+    let mut session = full(rt.alloc(), &config)?;
+    assert!(rt; session.unanswered() == config.command_bytes + FLOOD_ROOM && session.awaits(1));
     let one = Text::from_slice(rt.alloc(), b"\0")?;
-    session.turn(SessionInput::Client(one))?;
+    let (count, told) = hear(rt.alloc(), &mut session, one, &config)?;
     // 1153, the close, and the drop of the link
-    assert_eq!(rt; fetch(&mut session, &mut told, &mut sent)?, 3);
+    assert_eq!(rt; count, 3);
     assert_eq!(rt; told.as_slice(), TOO_LARGE);
     assert!(rt; session.is_over() && !session.awaits(1));
     Ok(())
@@ -130,5 +146,81 @@ fn a_farewell_is_reserved(rt: HostRuntime) -> Result<(), Fail> {
     );
     assert_eq!(rt; session.next_link(), Some(3));
     assert_eq!(rt; session.next_link(), None);
+    Ok(())
+}
+
+/// A response of `app` with the native plugin and an empty answer, and what the client gets for it.
+const RESPONSE: &[u8] =
+    b"\x3b\0\0\x01\x01\xa2\x08\0\0\0\0\x01\x2d\0\0\0\0\0\0\0\0\0\0\0\0\0\0\0\0\0\0\0\0\0\0\0app\0\0mysql_native_password\0";
+
+const WELCOME: &[u8] = b"\x07\0\0\x02\0\0\0\x02\0\0\0";
+
+/// The greeting of a server, and what it gets for it: the same login.
+const GREETING: &[u8] =
+    b"\x4f\0\0\0\x0a10.6.0-fake\0\x01\0\0\0AAAAAAAA\0\x0f\xa2\x2d\x02\0\xae\0\x15\0\0\0\0\0\0\0\0\0\0AAAAAAAAAAAA\0mysql_native_password\0";
+
+const REPEATED: &[u8] =
+    b"\x3b\0\0\x01\x01\xa2\xae\0\0\0\0\x01\x2d\0\0\0\0\0\0\0\0\0\0\0\0\0\0\0\0\0\0\0\0\0\0\0app\0\0mysql_native_password\0";
+
+const PREAMBLE: &[u8] =
+    b"\x64\0\0\0\x03SET SESSION session_track_system_variables = CONCAT(@@session_track_system_variables, ',last_gtid')";
+
+/// What the server sends after its greeting, and what the link and the client get for it.
+const ANSWERS: [(&[u8], &[u8], &[u8]); 3] = [
+    (WELCOME, PREAMBLE, b""),
+    (PONG, COMMAND, b""),
+    (PONG, b"", PONG),
+];
+
+#[test]
+fn a_client_logs_in_and_its_link_does(rt: HostRuntime) -> Result<(), Fail> {
+    let config = built_in(rt.alloc())?;
+    let mut session = Session::accept(rt.alloc(), 2, *b"ABCDEFGHIJKLMNOPQRST", &config)?;
+    assert!(rt; !session.start(&config)?);
+    let mut told = Vec::new(rt.alloc());
+    let mut sent = Vec::new(rt.alloc());
+    assert_eq!(rt; fetch(&mut session, &mut told, &mut sent)?, 1);
+    assert_eq!(rt; told.len(), 86);
+    let bytes = Text::from_slice(rt.alloc(), RESPONSE)?;
+    assert!(rt; !session.turn(SessionInput::Client(bytes), &config)?);
+    told.clear();
+    fetch(&mut session, &mut told, &mut sent)?;
+    assert_eq!(rt; told.as_slice(), WELCOME);
+    let bytes = Text::from_slice(rt.alloc(), COMMAND)?;
+    // It has no link, and asks for one.
+    assert!(rt; session.turn(SessionInput::Client(bytes), &config)?);
+    session.open_link(1, 0)?;
+    assert!(rt; !session.start(&config)?);
+    let bytes = Text::from_slice(rt.alloc(), GREETING)?;
+    session.turn(SessionInput::Link { link: 1, bytes }, &config)?;
+    fetch(&mut session, &mut told, &mut sent)?;
+    assert_eq!(rt; sent.as_slice(), REPEATED);
+    for (piece, to_link, to_client) in ANSWERS {
+        let bytes = Text::from_slice(rt.alloc(), piece)?;
+        session.turn(SessionInput::Link { link: 1, bytes }, &config)?;
+        told.clear();
+        sent.clear();
+        fetch(&mut session, &mut told, &mut sent)?;
+        assert_eq!(rt; sent.as_slice(), to_link);
+        assert_eq!(rt; told.as_slice(), to_client);
+    }
+    Ok(())
+}
+
+#[test]
+fn a_session_too_many_is_turned_away(rt: HostRuntime) -> Result<(), Fail> {
+    let config = built_in(rt.alloc())?;
+    let mut session = Session::turn_away(rt.alloc(), 2, true, &config)?;
+    session.start(&config)?;
+    let mut told = Vec::new(rt.alloc());
+    assert_eq!(rt;
+        fetch(&mut session, &mut told, &mut Vec::new(rt.alloc()))?,
+        2
+    );
+    assert_eq!(rt;
+        told.as_slice(),
+        b"\x1d\0\0\0\xff\x10\x04#08004too many connections".as_slice()
+    );
+    assert!(rt; session.is_over());
     Ok(())
 }

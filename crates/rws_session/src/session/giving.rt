@@ -3,7 +3,7 @@ ghost use Rattle.std.specs.Prelude.{◌≡◌, ◌∷◌, ◌++◌, ℕ, List, [
 ghost use Rattle.rws_wire.specs.Packets.{spelling, number_behind};
 ghost use Rattle.rws_wire.specs.declared.drop_cause.DropCause.TheVariants as causes;
 ghost use Rattle.rws_board.specs.declared.action.Action.TheVariants as actions;
-ghost use Rattle.rws_record.specs.Rules.{after_loss_by, has_transaction, is_loss, is_replayable, loss_by, sends_again};
+ghost use Rattle.rws_record.specs.Rules.{after_loss_by, assigned_by, has_transaction, is_loss, is_replayable, loss_by, sends_again};
 ghost use Rattle.rws_record.specs.Outputs.{own_ok};
 ghost use Rattle.rws_session.specs.declared.owing.Out.TheVariants as outs;
 ghost use Rattle.rws_session.specs.State.{erased};
@@ -12,6 +12,7 @@ ghost use Rattle.rws_session.specs.Kept.{Holds};
 ghost use Rattle.rws_session.specs.Steps.{after_out, closes, ends, gives, gives_up, loses, loss_in, passed};
 
 use crate::links::NumberedLink;
+use crate::login::LinkLogin;
 use crate::owing::Out;
 use crate::session::Session;
 use rws_board::Action;
@@ -27,6 +28,13 @@ impl Session {
         ensures err { OnErr result (Holds self.old self.new) }
     {
         match out {
+            Out::Hand { packets } => self.hand(packets),
+            Out::Open {
+                link,
+                server,
+                login,
+            } => self.open(link, server, &login),
+            Out::LogIn { link, packets } => self.log_in(link, packets),
             Out::Pass {
                 number,
                 link,
@@ -38,6 +46,48 @@ impl Session {
             Out::Drop { link, cause } => self.drop_link(link, cause),
             Out::Close { reason } => self.close(reason),
         }
+    }
+
+    /// Hands the client packets as they are.
+    fn hand(&mut self, packets: Text) -> Result<(), AllocError>
+        ensures ok { OnOk result (self.new ≡ gives (outs.Hand packets) self.old) }
+        ensures err { OnErr result (Holds self.old self.new) }
+    {
+        self.outs.push_back(Action::ToClient {
+            session: self.number,
+            bytes: packets,
+        })?;
+        Ok(())
+    }
+
+    /// Opens a link, which logs in so; the session is kept on it.
+    fn open(&mut self, link: u64, server: u8, login: &LinkLogin) -> Result<(), AllocError>
+        ensures ok { OnOk result (self.new ≡ gives (outs.Open link server login.now) self.old) }
+        ensures err { OnErr result (Holds self.old self.new) }
+    {
+        self.outs.push_back(Action::Open {
+            link,
+            server,
+            session: self.number,
+        })?;
+        if self.links.open(self.alloc, link, server, login).is_err() {
+            self.outs.pop_back();
+            return Err(AllocError);
+        }
+        self.kept_on = Some(link);
+        Ok(())
+    }
+
+    /// Sends packets of its login on a link as they are.
+    fn log_in(&mut self, link: u64, packets: Text) -> Result<(), AllocError>
+        ensures ok { OnOk result (self.new ≡ gives (outs.LogIn link packets) self.old) }
+        ensures err { OnErr result (Holds self.old self.new) }
+    {
+        self.outs.push_back(Action::ToLink {
+            link,
+            bytes: packets,
+        })?;
+        Ok(())
     }
 
     /// Tells the client a payload, in packets from this number on. The number behind them.
@@ -120,12 +170,25 @@ impl Session {
     {
         match closing(
             self.told_from == Some(link),
-            self.sent_on == Some(link),
+            self.assigned() == Some(link),
             self.kept_on == Some(link),
         ) {
             Some(reason) => self.owe(Out::Close { reason }),
             None => Ok(()),
         }
+    }
+
+    /// The link on which the pending command was sent, or is to be sent.
+    fn assigned(&self) -> Option<u64>
+        ensures { result ≡ assigned_by self.now.state.pending self.now.state.sent_on self.now.state.kept_on }
+    {
+        if self.pending.is_none() {
+            return None;
+        }
+        if self.sent_on.is_none() {
+            return self.kept_on;
+        }
+        self.sent_on
     }
 
     /// Owes something before what is owed already.
@@ -193,7 +256,7 @@ fn is_loss(cause: DropCause) -> bool
 }
 
 /// Why the loss of a link closes the session, by what the link is to it: the client has a part of the pending reply from
-/// it, the pending command was sent on it, the session is kept on it.
+/// it, the pending command was sent on it or waits for it, the session is kept on it.
 fn closing(told: bool, sent: bool, kept: bool) -> Option<CloseReason>
     ensures { map erased (after_loss_by (loss_by told sent sends_again kept has_transaction is_replayable sent)) ≡ closes result }
 {

@@ -3,11 +3,13 @@ ghost use Rattle.std.specs.Prelude.{◌≡◌, ◌++◌, ◌∷◌, ℕ, List, t
 ghost use Rattle.rws_config.specs.declared.config.Config.{Config};
 ghost use Rattle.rws_record.specs.Item.{Item};
 ghost use Rattle.rws_record.specs.Item.Item.{LinkBytes};
+ghost use Rattle.rws_front.specs.Connection.{error_number};
+ghost use Rattle.rws_front.specs.Fronting.{fed};
 ghost use Rattle.rws_session.specs.State.{link_of};
-ghost use Rattle.rws_session.specs.Table.{AreDistinct, without_number};
+ghost use Rattle.rws_session.specs.Table.{AreDistinct, ReadiesOn, without_number};
 ghost use Rattle.rws_session.specs.Kept.{Holds, Stands};
 ghost use Rattle.rws_session.specs.Turning.{heard};
-ghost use Rattle.rws_session.specs.Steps.{Hears, HearsInPart, ends, loses};
+ghost use Rattle.rws_session.specs.Steps.{Hears, HearsInPart, ends, loses, stands_at};
 
 use crate::SessionInput;
 use crate::session::Session;
@@ -20,7 +22,7 @@ impl Session {
         ensures ok { (config : Config) (past : List Item) → Stands config self.old past
             → IfOk result (λ went. Hears config (heard input past) past went self.old self.new) }
         ensures err { (config : Config) (past : List Item) → Stands config self.old past
-            → OnErr result (HearsInPart (heard input past) past self.old self.new) }
+            → OnErr result (HearsInPart config (heard input past) past self.old self.new) }
     {
         if self.ended() {
             return Ok(false);
@@ -34,6 +36,7 @@ impl Session {
                 self.leave()?;
                 Ok(true)
             }
+            SessionInput::Ready { link } => Ok(self.ready_link(link)),
             SessionInput::Link { link, bytes } => {
                 if !self.has(link) {
                     return Ok(false);
@@ -51,16 +54,24 @@ impl Session {
         }
     }
 
-    /// Puts bytes behind those that the client's stream holds.
+    /// Bytes of the client come.
     fn feed_client(&mut self, bytes: &[u8]) -> Result<(), AllocError>
-        ensures ok { OnOk result (self.new ≡ record self.old {
-          state = record self.old.state {
-            client = record self.old.state.client { held = self.old.state.client.held ++ bytes.now };
-          };
-        }) }
-        ensures err { OnErr result (Holds self.old self.new) }
+        ensures ok { OnOk result (self.new ≡ record self.old { state = stands_at (fed self.old.state.front bytes.now) self.old.state }) }
+        ensures err { OnErr result (Holds (record self.old {
+          state = record self.old.state { want_number = error_number (fed self.old.state.front bytes.now) };
+        }) self.new) }
     {
-        self.client.feed(bytes)
+        self.want_number = self.front.error_number(bytes);
+        self.front.feed(bytes)
+    }
+
+    /// A link counts as ready, if it is new.
+    fn ready_link(&mut self, link: u64) -> bool
+        ensures readies { (past : List Item) (links : List ℕ) → self.old.state.links ≡ map (link_of past) links → AreDistinct links
+            → ReadiesOn link past links result self.new.state.links }
+        ensures rest { self.new ≡ record self.old { state = record self.old.state { links = self.new.state.links } } }
+    {
+        self.links.ready(link)
     }
 
     /// Hands bytes to the link that they came on.

@@ -10,5 +10,6 @@ returns-in-Idle-clause-ok t c = λ past numbers are distinct.
 
 pub returns-in_default-clause-ok : goal.returns-in_default-clause-ok
 returns-in_default-clause-ok t c = λ past numbers are distinct.
-    read_here past numbers c.in-Some.first.now (record c.in-Some.first.now { link = c.next.new.self }) c.in-Some.others.now
-    c.in_ok-said-in-Some.said (sym c.in-Some.ensures.cases.0 ∙ are) distinct c.in_default.not-Idle refl c.in_ok-said-in-Some.ensures.ok
+    read_here past numbers c.in-Some.first.now c.hear.new.self c.in-Some.others.now c.in_ok-said-in-Some.said c.hear.result c.next.new.self
+    (sym c.in-Some.ensures.cases.0 ∙ are) distinct c.in_default.not-Idle c.hear.ensures.coming c.hear.ensures.heard
+    c.in_ok-said-in-Some.ensures.ok

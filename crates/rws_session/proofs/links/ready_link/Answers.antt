@@ -1,4 +1,3 @@
-use Rattle.std.proofs.Common.{refl}
 use Rattle.rws_link.specs.Stepping.{opened}
 use Rattle.rws_msgs.specs.Fields.{HasNoZero}
 use Rattle.rws_session.proofs.links.ready_link.Goals as goal

@@ -1,12 +1,10 @@
-use Rattle.std.proofs.Common.{refl}
+use Rattle.std.proofs.Common.{refl, Some}
+use Rattle.rws_record.specs.Item.Item.{Began}
+use Rattle.rws_session.proofs.BeginLemmas.{made}
 use Rattle.rws_session.proofs.TableLemmas.{itself}
-use Rattle.rws_session.proofs.BeginLemmas.{begun_stands}
 use Rattle.rws_session.proofs.session.Session.begin.Goals as goal
 
 pub returns : goal.returns
-returns c = (
-  refl,
-  c.new.ensures.items,
-  begun_stands c.args.config.now c.args.link c.args.server _
-      (rw (c.new-2.ensures, c.in_ok-begin.ensures, c.new-3.ensures.items, c.in_ok-reserve_farewell.ensures, itself c.args.link) refl),
-)
+returns c =
+    made c.args.config.now (Began c.args.link c.args.server) c.args.number _ _ (Some c.args.link) c.with_front.result tt
+    (rw (c.in_commands-front.ensures, c.in_ok-links.ensures, itself c.args.link) refl) c.with_front.ensures

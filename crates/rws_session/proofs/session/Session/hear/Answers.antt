@@ -1,6 +1,6 @@
 use Rattle.std.proofs.Common.{sym, ◌∙◌}
 use Rattle.rws_session.proofs.BreakLemmas.{hears_part_of_bytes, hears_part_of_client, hears_part_of_gone, hears_part_of_loss, on_err}
-use Rattle.rws_session.proofs.TurnLemmas.{hears_bytes, hears_client, hears_gone, hears_loss, hears_no_bytes, hears_no_loss}
+use Rattle.rws_session.proofs.TurnLemmas.{hears_bytes, hears_client, hears_gone, hears_loss, hears_no_bytes, hears_no_loss, hears_ready}
 use Rattle.rws_session.proofs.session.Session.hear.Goals as goal
 
 pub returns-in_ok-feed_client-in-Client-clause-ok : goal.returns-in_ok-feed_client-in-Client-clause-ok
@@ -12,6 +12,11 @@ pub returns-in_ok-leave-in-ClientGone-clause-ok : goal.returns-in_ok-leave-in-Cl
 returns-in_ok-leave-in-ClientGone-clause-ok c = λ config past stands.
     rw c.in-ClientGone.is (hears_gone config past c.args.self.now c.leave.new.self stands (sym c.ended.ensures ∙ c.if-ended.false)
     c.in_ok-leave-in-ClientGone.ensures.ok)
+
+pub returns-in-Ready-clause-ok : goal.returns-in-Ready-clause-ok
+returns-in-Ready-clause-ok c = λ config past stands.
+    rw c.in-Ready.is (hears_ready config past c.in-Ready.link c.ready_link.result c.args.self.now c.ready_link.new.self stands
+    (sym c.ended.ensures ∙ c.if-ended.false) c.ready_link.ensures.readies c.ready_link.ensures.rest)
 
 pub returns-then-not-has-clause-ok : goal.returns-then-not-has-clause-ok
 returns-then-not-has-clause-ok c = λ config past stands.
@@ -37,7 +42,7 @@ returns-in_ok-lose_link-in-LinkGone-clause-ok c = λ config past stands.
 pub returns-in_err-feed_client-in-Client-clause-err : goal.returns-in_err-feed_client-in-Client-clause-err
 returns-in_err-feed_client-in-Client-clause-err c = λ config past stands.
     rw c.in-Client.is (on_err _ (hears_part_of_client config past c.in-Client.bytes c.args.self.now c.feed_client.new.self stands
-    (sym c.ended.ensures ∙ c.if-ended.false) c.in_err-feed_client-in-Client.ensures.err))
+    (sym c.ended.ensures ∙ c.if-ended.false) (rw c.as_slice.ensures at c.in_err-feed_client-in-Client.ensures.err)))
 
 pub returns-in_err-leave-in-ClientGone-clause-err : goal.returns-in_err-leave-in-ClientGone-clause-err
 returns-in_err-leave-in-ClientGone-clause-err c = λ config past stands.

@@ -13,7 +13,7 @@ returns-in-None-clause-ok c = λ config past is o.
 
 pub returns-in_ok-take_coming-in-Some-clause-ok : goal.returns-in_ok-take_coming-in-Some-clause-ok
 returns-in_ok-take_coming-in-Some-clause-ok c = λ config past is o.
-    read_one config past c.args.self.now c.next_coming.new.self c.take_coming.new.self c.in-Some.link c.in-Some.said is o
+    read_one config past c.args.self.now c.next_coming.new.self c.take_coming.new.self c.in-Some.coming is o
     c.in_ok-next_coming.ensures.rest
     (rw c.in-Some.is at (c.in_ok-next_coming.ensures.reads past (links past) (ap (λ (s : State). s.links) is.mirrors)
     (links_distinct is.legal)))
