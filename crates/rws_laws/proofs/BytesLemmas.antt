@@ -1,5 +1,5 @@
 -- Where the bytes that came on links are bytes, so are the payloads that are read of them.
-use Rattle.std.proofs.Common.{◌≡◌, ℕ, zero, suc, ◌+◌, ◌<◌, ◌≤◌, Bool, true, false, List, [], ◌∷◌, ◌++◌, length, take, drop, refl, sym, ap, ◌∙◌, arith, Option, Some, None}
+use Rattle.std.proofs.Common.{◌≡◌, ℕ, zero, suc, ◌<◌, ◌≤◌, Bool, true, false, List, [], ◌∷◌, ◌++◌, length, take, drop, refl, sym, ◌∙◌, arith, Option, Some, None}
 use Rattle.std.specs.Prelude.{◌==◌, if◌then◌else◌}
 use Rattle.std.specs.List.{AllByRecursion}
 use Rattle.std.proofs.lemmas.List.{length-drop, nil_from_length}
@@ -16,17 +16,21 @@ use Rattle.rws_reply.specs.declared.kind.Progress.{Progress}
 use Rattle.rws_reply.specs.declared.kind.Progress.TheVariants.{More as On, Whole as Ends}
 use Rattle.rws_reply.specs.declared.role.Role.{Role}
 use Rattle.rws_reply.specs.Tracking.{progress, role}
+use Rattle.rws_link.specs.declared.handshake.Handshake.{Handshake}
+use Rattle.rws_link.specs.declared.handshake.Reaction.{Reaction}
+use Rattle.rws_link.specs.declared.handshake.Reaction.TheVariants.{Answers, Accepted, Loses}
+use Rattle.rws_link.specs.Handshake.{due, reaction}
 use Rattle.rws_link.specs.declared.step.LinkStep.{LinkStep}
 use Rattle.rws_link.specs.declared.step.LinkStep.TheVariants as steps
-use Rattle.rws_link.specs.Stepping.{LinkState, LogsIn, Rests, Awaits, IsLost, Exchange, behind_part, fed, read_by, replied, replied_by, sent, settled, step, with_part}
+use Rattle.rws_link.specs.Stepping.{LinkState, LogsIn, Rests, Awaits, IsLost, Exchange, behind_part, fed, is_new, logged_in, opened as opening, reacted, read_by, replied, replied_by, sent, settled, step, with_part}
 use Rattle.rws_config.specs.declared.config.Config.{Config}
 use Rattle.rws_config.specs.declared.limits.TheConstants.{SERVER_PAYLOAD}
 use Rattle.rws_record.specs.Item.{Item}
-use Rattle.rws_record.specs.Item.Item.{Began, ClientBytes, LinkBytes, ClientGone, LinkLost, Comes, Takes, TakesFault, Floods, Puts, Starves}
-use Rattle.rws_record.specs.Item.Put.{Tells, Sends, Drops, Closes}
+use Rattle.rws_record.specs.Item.Item.{Accepted, TurnsAway, Began, ClientBytes, LinkReady, LinkBytes, ClientGone, LinkLost, Routed, Comes, Connects, Takes, Floods, Puts, Starves}
+use Rattle.rws_record.specs.Item.Put.{Hands, Tells, Routes, Opens, LogsInto, Sends, Drops, Closes}
 use Rattle.rws_record.specs.Values.{kind_of, link_held, linked, sent_for, unread}
-use Rattle.rws_record.proofs.LinkedLemmas.{logs_in, never_logs_in}
-use Rattle.rws_laws.specs.Causes.{AreCaused, IsRead, came_on, with_said}
+use Rattle.rws_laws.specs.Servers.{came_on, with_said}
+use Rattle.rws_laws.specs.Causes.{AreCaused, IsRead}
 use Rattle.rws_laws.specs.Laws.{HeardBytes}
 
 -- Lists of bytes
@@ -121,11 +125,28 @@ read_fits e bytes (Whole payload next rest) fit f =
     replied_fits e payload rest next (role e.kind e.sofar payload) (progress e.kind e.sofar payload)
     (fits SERVER_PAYLOAD payload next rest e.next bytes fit f).1
 
-step_fits : (link : LinkState) → logs_in link ≡ false → AreBytes (unread link) → AreBytes (unread (step link).after)
-step_fits (LogsIn handshake held) n fit = absurd cc
-step_fits Rests n fit = none_fit
-step_fits (Awaits e bytes) n fit = read_fits e bytes (first_payload SERVER_PAYLOAD e.next bytes) fit refl
-step_fits (IsLost cause) n fit = none_fit
+entered_fits : (rest : List ℕ) → AreBytes (unread (logged_in rest).after)
+entered_fits [] = none_fit
+entered_fits (byte ∷ rest) = none_fit
+
+reacted_fits : (rest : List ℕ) (its : Reaction) → AreBytes rest → AreBytes (unread (reacted rest its).after)
+reacted_fits rest (Answers packets stage1 next) fit = fit
+reacted_fits rest Accepted fit = entered_fits rest
+reacted_fits rest (Loses cause) fit = none_fit
+
+greeted_fits : (handshake : Handshake) (bytes : List ℕ) (found : Beginning) → AreBytes bytes
+    → first_payload SERVER_PAYLOAD (due handshake) bytes ≡ found
+    → AreBytes (unread (read_by (LogsIn handshake bytes) (λ payload next rest. reacted rest (reaction handshake payload next)) found).after)
+greeted_fits handshake bytes Nothing fit f = fit
+greeted_fits handshake bytes (Faulty fault) fit f = none_fit
+greeted_fits handshake bytes (Whole payload next rest) fit f =
+    reacted_fits rest (reaction handshake payload next) (fits SERVER_PAYLOAD payload next rest (due handshake) bytes fit f).1
+
+step_fits : (link : LinkState) → AreBytes (unread link) → AreBytes (unread (step link).after)
+step_fits (LogsIn handshake bytes) fit = greeted_fits handshake bytes (first_payload SERVER_PAYLOAD (due handshake) bytes) fit refl
+step_fits Rests fit = none_fit
+step_fits (Awaits e bytes) fit = read_fits e bytes (first_payload SERVER_PAYLOAD e.next bytes) fit refl
+step_fits (IsLost cause) fit = none_fit
 
 -- a link that an item may change
 one_fits : (test : Bool) (changed link : LinkState) → AreBytes (unread changed) → AreBytes (unread link)
@@ -139,17 +160,28 @@ held_fits link (LinkBytes from bytes ∷ past) heard =
     let below = held_fits link past heard.1 in one_fits (from == link) _ _ (fed_fits bytes (linked link past) heard.0 below) below
 held_fits link (Comes from said ∷ past) heard =
     let below = held_fits link past heard in
-    one_fits (from == link) _ _ (step_fits (linked link past) (never_logs_in link past) below) below
+    one_fits (from == link) _ _ (step_fits (linked link past) below) below
 held_fits link (Began first server ∷ past) heard = one_fits (first == link) Rests _ none_fit (held_fits link past heard)
 held_fits link (Puts (Sends to purpose) ∷ past) heard =
     one_fits (to == link) (sent (sent_for purpose) (Some (kind_of purpose))) _ none_fit (held_fits link past heard)
+held_fits link (LinkReady ready ∷ past) heard =
+    let below = held_fits link past heard in
+    one_fits (ready == link) _ _ (one_fits (is_new (linked link past)) Rests _ none_fit below) below
+held_fits link (Puts (Opens opened server login) ∷ past) heard =
+    one_fits (opened == link) (opening login) _ none_fit (held_fits link past heard)
+held_fits link (Accepted session scramble ∷ past) heard = held_fits link past heard
+held_fits link (TurnsAway told ∷ past) heard = held_fits link past heard
+held_fits link (Routed its server ∷ past) heard = held_fits link past heard
+held_fits link (Connects said ∷ past) heard = held_fits link past heard
+held_fits link (Puts (Hands packets) ∷ past) heard = held_fits link past heard
+held_fits link (Puts (Routes login) ∷ past) heard = held_fits link past heard
+held_fits link (Puts (LogsInto to packets) ∷ past) heard = held_fits link past heard
 held_fits link (ClientBytes bytes ∷ past) heard = held_fits link past heard
 held_fits link (ClientGone ∷ past) heard = held_fits link past heard
 held_fits link (LinkLost gone ∷ past) heard = held_fits link past heard
 held_fits link (Takes it number ∷ past) heard = held_fits link past heard
-held_fits link (TakesFault fault ∷ past) heard = held_fits link past heard
 held_fits link (Floods bytes ∷ past) heard = held_fits link past heard
-held_fits link (Starves made ∷ past) heard = held_fits link past heard
+held_fits link (Starves made number ∷ past) heard = held_fits link past heard
 held_fits link (Puts (Tells number tell) ∷ past) heard = held_fits link past heard
 held_fits link (Puts (Drops gone cause) ∷ past) heard = held_fits link past heard
 held_fits link (Puts (Closes reason) ∷ past) heard = held_fits link past heard
@@ -182,15 +214,23 @@ came_fits config link (Comes from said ∷ past) caused heard =
         → AllByRecursion AreBytes (if test then with_said said (came_on link past) else came_on link past)
     by_test true said read below = by_said said read below
     by_test false said read below = below
+came_fits config link (Accepted session scramble ∷ past) caused heard = came_fits config link past caused.2 heard
+came_fits config link (TurnsAway told ∷ past) caused heard = came_fits config link past caused.2 heard
+came_fits config link (LinkReady ready ∷ past) caused heard = came_fits config link past caused.2 heard
+came_fits config link (Routed its server ∷ past) caused heard = came_fits config link past caused.2 heard
+came_fits config link (Connects said ∷ past) caused heard = came_fits config link past caused.2 heard
+came_fits config link (Puts (Hands packets) ∷ past) caused heard = came_fits config link past caused.1 heard
+came_fits config link (Puts (Routes login) ∷ past) caused heard = came_fits config link past caused.1 heard
+came_fits config link (Puts (Opens opened server login) ∷ past) caused heard = came_fits config link past caused.1 heard
+came_fits config link (Puts (LogsInto to packets) ∷ past) caused heard = came_fits config link past caused.1 heard
 came_fits config link (Began first server ∷ past) caused heard = came_fits config link past caused.2 heard
 came_fits config link (ClientBytes bytes ∷ past) caused heard = came_fits config link past caused.2 heard
 came_fits config link (LinkBytes from bytes ∷ past) caused heard = came_fits config link past caused.2 heard.1
 came_fits config link (ClientGone ∷ past) caused heard = came_fits config link past caused.2 heard
 came_fits config link (LinkLost gone ∷ past) caused heard = came_fits config link past caused.2 heard
 came_fits config link (Takes it number ∷ past) caused heard = came_fits config link past caused.2 heard
-came_fits config link (TakesFault fault ∷ past) caused heard = came_fits config link past caused.2 heard
 came_fits config link (Floods bytes ∷ past) caused heard = came_fits config link past caused.2 heard
-came_fits config link (Starves made ∷ past) caused heard = came_fits config link past caused.2 heard
+came_fits config link (Starves made number ∷ past) caused heard = came_fits config link past caused.3 heard
 came_fits config link (Puts (Tells number tell) ∷ past) caused heard = came_fits config link past caused.1 heard
 came_fits config link (Puts (Drops gone cause) ∷ past) caused heard = came_fits config link past caused.1 heard
 came_fits config link (Puts (Closes reason) ∷ past) caused heard = came_fits config link past caused.1 heard

@@ -1,3 +1,9 @@
+-- what a client's front, and a link's login, say
+pub mod FrontLemmas
+pub mod HandshakeLemmas
+-- when a session asks the worker, and how far its client is
+pub mod AskedLemmas
+pub mod EnteringLemmas
 -- what a legal record keeps true
 pub mod Sound
 pub mod LinksLemmas
@@ -5,14 +11,17 @@ pub mod CameLemmas
 pub mod LostLemmas
 pub mod ReplyLemmas
 pub mod OwedLemmas
+pub mod GivenLemmas
 pub mod SoundLemmas
 pub mod WantedLemmas
 -- the law on causes
+pub mod PreparedLemmas
 pub mod CausesLemmas
 -- the law on what a client has where a reply ended
 pub mod BytesLemmas
 pub mod WholeLemmas
 -- the law on what a session that rests has answered
 pub mod EndedLemmas
+pub mod UpLemmas
 pub mod AwaitedLemmas
 pub mod AnswersLemmas

@@ -1,6 +1,6 @@
 -- Why a link is lost: of a session that goes on and owes nothing it is since a byte came that nobody awaited.
 use Rattle.std.proofs.Common.{◌≡◌, ℕ, Bool, true, false, List, [], ◌∷◌, ◌++◌, refl, sym, ap, subst, ◌∙◌, inl, inr, Option, Some, None, eqb-true}
-use Rattle.std.specs.Prelude.{◌⊎◌, Contains, ◌==◌, if◌then◌else◌}
+use Rattle.std.specs.Prelude.{◌⊎◌, ◌==◌, if◌then◌else◌}
 use Rattle.rws_wire.specs.Payloads.{Beginning, first_payload}
 use Rattle.rws_wire.specs.Payloads.Beginning.{Nothing, Whole, Faulty}
 use Rattle.rws_reply.specs.declared.kind.Outcome.{Outcome}
@@ -12,28 +12,37 @@ use Rattle.rws_reply.proofs.ProgressLemmas.{progress_is_exact}
 use Rattle.rws_wire.specs.declared.drop_cause.DropCause.{DropCause}
 use Rattle.rws_config.specs.declared.config.Config.{Config}
 use Rattle.rws_config.specs.declared.limits.TheConstants.{SERVER_PAYLOAD}
+use Rattle.rws_native.specs.declared.login.Login.{Login}
+use Rattle.rws_link.specs.declared.handshake.Handshake.{Handshake}
+use Rattle.rws_link.specs.declared.handshake.Reaction.{Reaction}
+use Rattle.rws_link.specs.declared.handshake.Reaction.TheVariants.{Answers, Accepted, Loses}
+use Rattle.rws_link.specs.Handshake.{due, reaction}
 use Rattle.rws_link.specs.declared.step.LinkCause.{LinkCause}
-use Rattle.rws_link.specs.declared.step.LinkCause.TheVariants.{BadWire, BadReply, Unasked}
+use Rattle.rws_link.specs.declared.step.LinkCause.TheVariants.{Unasked}
 use Rattle.rws_link.specs.declared.step.LinkStep.{LinkStep}
 use Rattle.rws_link.specs.declared.step.LinkStep.TheVariants as steps
-use Rattle.rws_link.specs.Stepping.{LinkState, LogsIn, Rests, Awaits, IsLost, Exchange, behind_part, fed, read_by, replied, replied_by, sent, settled, step, with_part}
+use Rattle.rws_link.specs.Stepping.{LinkState, LogsIn, Rests, Awaits, IsLost, Exchange, behind_part, fed, is_new, logged_in, opened as opening, reacted, readied, read_by, replied, replied_by, sent, settled, step, with_part}
 use Rattle.rws_record.specs.Item.{Item, Purpose, Put}
-use Rattle.rws_record.specs.Item.Item.{Began, ClientBytes, LinkBytes, ClientGone, LinkLost, Comes, Takes, TakesFault, Floods, Puts, Starves}
-use Rattle.rws_record.specs.Item.Put.{Tells, Sends, Drops, Closes}
-use Rattle.rws_record.specs.Item.Purpose.{Asks}
-use Rattle.rws_record.specs.Values.{awaited, contains, is_starved, kind_of, linked, links, sent_for, unread}
+use Rattle.rws_record.specs.Item.Item.{Accepted, TurnsAway, Began, ClientBytes, LinkReady, LinkBytes, ClientGone, LinkLost, Routed, Comes, Connects, Takes, Floods, Puts, Starves}
+use Rattle.rws_record.specs.Item.Put.{Hands, Tells, Routes, Opens, LogsInto, Sends, Drops, Closes}
+use Rattle.rws_record.specs.Item.Purpose.{Prepares, Asks}
+use Rattle.rws_record.specs.Values.{awaited, contains, is_starved, kind_of, link_held, linked, links, sent_for, unread, without}
 use Rattle.rws_record.specs.Rules.{drop_cause, owed}
-use Rattle.rws_record.specs.Record.{IsRecord, IsInput}
-use Rattle.rws_record.specs.Record.IsRecord.{begins, steps as goes, hears, starves}
-use Rattle.rws_record.proofs.LinkedLemmas.{Says, after_loss_is, after_part_is, logs_in, never_logs_in}
-use Rattle.rws_record.proofs.LinkedLemmas.Says.{part, garbled, wrong, again}
+use Rattle.rws_record.specs.Record.{IsBeginning, IsRecord, IsInput}
+use Rattle.rws_record.specs.Record.IsRecord.{begins, steps as goes, answers as answered, hears, starves}
+use Rattle.rws_record.proofs.LinkedLemmas.{Says, after_loss_is, after_part_is}
+use Rattle.rws_record.proofs.LinkedLemmas.Says.{answers, enters, hurries, fails, breaks, part, garbled, wrong, again}
 use Rattle.rws_record.proofs.StepLemmas.{Due, Step, of_next, rests_owing_nothing}
-use Rattle.rws_record.proofs.StepLemmas.Due.{comes, takes, takes_fault}
-use Rattle.rws_record.proofs.StepLemmas.Step.{pays, sends, floods, reads}
+use Rattle.rws_record.proofs.StepLemmas.Due.{comes, connects, takes}
+use Rattle.rws_record.proofs.StepLemmas.Step.{pays, asks, prepares, sends, floods, reads}
 use Rattle.rws_record.proofs.WantLemmas.{input_starved, step_starved}
 use Rattle.rws_record.proofs.WithoutLemmas.{without_has_not, without_keeps_out}
-use Rattle.rws_laws.specs.Causes.{WasUnasked}
-use Rattle.rws_laws.specs.Causes.WasUnasked.{resting, behind_reply, earlier}
+use Rattle.rws_laws.specs.Servers.{LoginCame, LoginFailed, WasUnasked}
+use Rattle.rws_laws.specs.Servers.LoginFailed.{no_greeting, not_served, error_came, other_plugin, no_answer, bad_question}
+use Rattle.rws_laws.specs.Servers.WasUnasked.{resting, behind_login, behind_reply, earlier}
+use Rattle.rws_laws.proofs.CameLemmas.{after_answer_is, after_entering_is}
+use Rattle.rws_laws.proofs.HandshakeLemmas.{fails_so, takes_so}
+use Rattle.rws_record.proofs.OpeningLemmas.{asks_owing_nothing}
 
 -- A byte that nobody awaited
 
@@ -76,14 +85,60 @@ module _ (past : List Item) (link : ℕ) (said : LinkStep) (e : Exchange) (bytes
       replied_unasked payload rest number (role e.kind e.sofar payload) (progress e.kind e.sofar payload) f refl now
   read_unasked (Faulty fault) f now = absurd cc
 
-step_unasked : (past : List Item) (link : ℕ) (said : LinkStep) (state : LinkState) → linked link past ≡ state → logs_in state ≡ false
+-- a login fails for no such byte
+not_unasked : {A : Type 0} {payload : List ℕ} {handshake : Handshake} {cause : LinkCause} → LoginFailed payload handshake cause
+    → cause ≡ Unasked → A
+not_unasked (no_greeting g) is = absurd cc
+not_unasked (not_served g s) is = absurd cc
+not_unasked (error_came e) is = absurd cc
+not_unasked (other_plugin p n) is = absurd cc
+not_unasked (no_answer e o p) is = absurd cc
+not_unasked (bad_question e o s) is = absurd cc
+
+module _ (past : List Item) (link : ℕ) (said : LinkStep) (handshake : Handshake) (bytes : List ℕ) (is : linked link past ≡ LogsIn handshake bytes) where
+  pub its_login : {payload rest : List ℕ} {number : ℕ} → first_payload SERVER_PAYLOAD (due handshake) bytes ≡ Whole payload number rest
+      → LoginCame link handshake payload number rest past
+  its_login f = let held : link_held link past ≡ bytes = ap unread is in record { state = rw held is; begins = rw held f }
+
+  entered_unasked : (payload rest : List ℕ) (number : ℕ) → first_payload SERVER_PAYLOAD (due handshake) bytes ≡ Whole payload number rest
+      → reaction handshake payload number ≡ Accepted → (logged_in rest).after ≡ IsLost Unasked → WasUnasked link (Comes link said ∷ past)
+  entered_unasked payload [] number f r now = absurd cc
+  entered_unasked payload (byte ∷ rest) number f r now = behind_login (its_login f) (takes_so handshake payload number r)
+
+  reacted_unasked : (payload rest : List ℕ) (number : ℕ) (its : Reaction) → first_payload SERVER_PAYLOAD (due handshake) bytes ≡ Whole payload number rest
+      → reaction handshake payload number ≡ its → (reacted rest its).after ≡ IsLost Unasked → WasUnasked link (Comes link said ∷ past)
+  reacted_unasked payload rest number (Answers packets stage1 next) f r now = absurd cc
+  reacted_unasked payload rest number Accepted f r now = entered_unasked payload rest number f r now
+  reacted_unasked payload rest number (Loses cause) f r now =
+      let same : cause ≡ Unasked = cc in not_unasked (fails_so handshake payload number cause r) same
+
+  greeted_unasked : (found : Beginning) → first_payload SERVER_PAYLOAD (due handshake) bytes ≡ found
+      → (read_by (LogsIn handshake bytes) (λ payload next rest. reacted rest (reaction handshake payload next)) found).after ≡ IsLost Unasked
+      → WasUnasked link (Comes link said ∷ past)
+  greeted_unasked Nothing f now = absurd cc
+  greeted_unasked (Whole payload number rest) f now = reacted_unasked payload rest number (reaction handshake payload number) f refl now
+  greeted_unasked (Faulty fault) f now = absurd cc
+
+step_unasked : (past : List Item) (link : ℕ) (said : LinkStep) (state : LinkState) → linked link past ≡ state
     → (step state).after ≡ IsLost Unasked → (linked link past ≡ IsLost Unasked → WasUnasked link past)
     → WasUnasked link (Comes link said ∷ past)
-step_unasked past link said (LogsIn handshake unread) is n now below = absurd cc
-step_unasked past link said Rests is n now below = absurd cc
-step_unasked past link said (Awaits e bytes) is n now below =
+step_unasked past link said (LogsIn handshake bytes) is now below =
+    greeted_unasked past link said handshake bytes is (first_payload SERVER_PAYLOAD (due handshake) bytes) refl now
+step_unasked past link said Rests is now below = absurd cc
+step_unasked past link said (Awaits e bytes) is now below =
     read_unasked past link said e bytes is (first_payload SERVER_PAYLOAD e.next bytes) refl now
-step_unasked past link said (IsLost cause) is n now below = earlier (below (is ∙ now))
+step_unasked past link said (IsLost cause) is now below = earlier (below (is ∙ now))
+
+-- one that counts as ready was lost before
+readied_lost : (link : LinkState) (cause : LinkCause) → readied link ≡ IsLost cause → link ≡ IsLost cause
+readied_lost (LogsIn handshake bytes) cause now = by_test (is_new (LogsIn handshake bytes)) now
+  where
+    by_test : (test : Bool) → (if test then Rests else LogsIn handshake bytes) ≡ IsLost cause → LogsIn handshake bytes ≡ IsLost cause
+    by_test true now = absurd cc
+    by_test false now = now
+readied_lost Rests cause now = now
+readied_lost (Awaits e bytes) cause now = now
+readied_lost (IsLost other) cause now = now
 
 pub was_unasked : (link : ℕ) (past : List Item) → linked link past ≡ IsLost Unasked → WasUnasked link past
 was_unasked link [] now = absurd cc
@@ -107,7 +162,7 @@ was_unasked link (Comes from said ∷ past) now = by_test (from == link) refl no
         → (linked link past ≡ IsLost Unasked → WasUnasked link past) → WasUnasked link (Comes from said ∷ past)
     by_test true t now below =
         subst (λ (l : ℕ). WasUnasked link (Comes l said ∷ past)) (sym (eqb-true from link t))
-        (step_unasked past link said (linked link past) refl (never_logs_in link past) now below)
+        (step_unasked past link said (linked link past) refl now below)
     by_test false t now below = earlier (below now)
 was_unasked link (Puts (Sends to purpose) ∷ past) now = by_test (to == link) now (was_unasked link past)
   where
@@ -116,13 +171,31 @@ was_unasked link (Puts (Sends to purpose) ∷ past) now = by_test (to == link) n
         → (linked link past ≡ IsLost Unasked → WasUnasked link past) → WasUnasked link (Puts (Sends to purpose) ∷ past)
     by_test true now below = absurd cc
     by_test false now below = earlier (below now)
+was_unasked link (LinkReady ready ∷ past) now = by_test (ready == link) now (was_unasked link past)
+  where
+    by_test : (test : Bool) → (if test then readied (linked link past) else linked link past) ≡ IsLost Unasked
+        → (linked link past ≡ IsLost Unasked → WasUnasked link past) → WasUnasked link (LinkReady ready ∷ past)
+    by_test true now below = earlier (below (readied_lost (linked link past) Unasked now))
+    by_test false now below = earlier (below now)
+was_unasked link (Puts (Opens opened server login) ∷ past) now = by_test (opened == link) now (was_unasked link past)
+  where
+    by_test : (test : Bool) → (if test then opening login else linked link past) ≡ IsLost Unasked
+        → (linked link past ≡ IsLost Unasked → WasUnasked link past) → WasUnasked link (Puts (Opens opened server login) ∷ past)
+    by_test true now below = absurd cc
+    by_test false now below = earlier (below now)
+was_unasked link (Accepted session scramble ∷ past) now = earlier (was_unasked link past now)
+was_unasked link (TurnsAway told ∷ past) now = earlier (was_unasked link past now)
+was_unasked link (Routed its server ∷ past) now = earlier (was_unasked link past now)
+was_unasked link (Connects said ∷ past) now = earlier (was_unasked link past now)
+was_unasked link (Puts (Hands packets) ∷ past) now = earlier (was_unasked link past now)
+was_unasked link (Puts (Routes login) ∷ past) now = earlier (was_unasked link past now)
+was_unasked link (Puts (LogsInto to packets) ∷ past) now = earlier (was_unasked link past now)
 was_unasked link (ClientBytes bytes ∷ past) now = earlier (was_unasked link past now)
 was_unasked link (ClientGone ∷ past) now = earlier (was_unasked link past now)
 was_unasked link (LinkLost gone ∷ past) now = earlier (was_unasked link past now)
 was_unasked link (Takes judged number ∷ past) now = earlier (was_unasked link past now)
-was_unasked link (TakesFault fault ∷ past) now = earlier (was_unasked link past now)
 was_unasked link (Floods bytes ∷ past) now = earlier (was_unasked link past now)
-was_unasked link (Starves made ∷ past) now = earlier (was_unasked link past now)
+was_unasked link (Starves made number ∷ past) now = earlier (was_unasked link past now)
 was_unasked link (Puts (Tells number tell) ∷ past) now = earlier (was_unasked link past now)
 was_unasked link (Puts (Drops given cause) ∷ past) now = earlier (was_unasked link past now)
 was_unasked link (Puts (Closes reason) ∷ past) now = earlier (was_unasked link past now)
@@ -160,6 +233,16 @@ said_lost : (state : LinkState) (said : LinkStep) (cause : LinkCause) → Says s
     → (cause ≡ Unasked) ⊎ (said ≡ steps.Lost cause)
 said_lost state said cause (part {e = e} {unread = bytes} {payload = payload} {rest = rest} {number = number} {its = its} {far = far} f r p) now =
     inl (part_lost (with_part payload number e) rest far cause (sym (after_part_is e bytes payload rest number its far f r p) ∙ now))
+said_lost state said cause (answers {handshake = handshake} {unread = bytes} f r) now =
+    absurd (let clash : LogsIn _ _ ≡ IsLost cause = sym (after_answer_is handshake bytes f r) ∙ now in cc)
+said_lost state said cause (enters {handshake = handshake} {unread = bytes} f r) now =
+    absurd (let clash : Rests ≡ IsLost cause = sym (after_entering_is handshake bytes f r) ∙ now in cc)
+said_lost state said cause (hurries f r) now =
+    let same : IsLost _ ≡ IsLost cause = sym (after_loss_is state said _ (hurries f r) refl) ∙ now in inr (cc)
+said_lost state said cause (fails f r) now =
+    let same : IsLost _ ≡ IsLost cause = sym (after_loss_is state said _ (fails f r) refl) ∙ now in inr (cc)
+said_lost state said cause (breaks f) now =
+    let same : IsLost _ ≡ IsLost cause = sym (after_loss_is state said _ (breaks f) refl) ∙ now in inr (cc)
 said_lost state said cause (garbled f) now =
     let same : IsLost _ ≡ IsLost cause = sym (after_loss_is state said _ (garbled f) refl) ∙ now in inr (cc)
 said_lost state said cause (wrong f p) now =
@@ -204,6 +287,14 @@ bytes_lose past from bytes o all = λ link cause now. by_test link cause (from =
     by_test link cause true now = by_cause link cause (fed_loses past link bytes cause (linked link past) refl now)
     by_test link cause false now = by_cause link cause (inr now)
 
+ready_loses : (past : List Item) (ready : ℕ) → owed past ≡ [] → AllLosing past → AllLosing (LinkReady ready ∷ past)
+ready_loses past ready o all = λ link cause now. by_test link cause (ready == link) now
+  where
+    by_test : (link : ℕ) (cause : LinkCause) (test : Bool) → (if test then readied (linked link past) else linked link past) ≡ IsLost cause
+        → Losing link cause (LinkReady ready ∷ past)
+    by_test link cause true now = still o (λ less. less) (all link cause (readied_lost (linked link past) cause now))
+    by_test link cause false now = still o (λ less. less) (all link cause now)
+
 sending_loses : (past : List Item) (to : ℕ) (purpose : Purpose)
     → ((link : ℕ) (cause : LinkCause) → linked link past ≡ IsLost cause → Losing link cause (Puts (Sends to purpose) ∷ past))
     → AllLosing (Puts (Sends to purpose) ∷ past)
@@ -229,7 +320,44 @@ given_up past other why others link cause o (gone is) = gone (without_keeps_out 
 given_up past other why others link cause o (soon is) =
     let same : other ≡ link = cc in gone (rw same (without_has_not link (links past)))
 
+-- a link that is opened is another one
+no_more : (link opened : ℕ) (list : List ℕ) → contains link list ≡ false → (opened == link) ≡ false → contains link (list ++ opened ∷ []) ≡ false
+no_more link opened [] none t = rw t refl
+no_more link opened (first ∷ others) none t = by_test (first == link) none (no_more link opened others)
+  where
+    by_test : (test : Bool) → (if test then true else contains link others) ≡ false
+        → (contains link others ≡ false → (opened == link) ≡ false → contains link (others ++ opened ∷ []) ≡ false)
+        → (if test then true else contains link (others ++ opened ∷ [])) ≡ false
+    by_test true none behind = absurd cc
+    by_test false none behind = behind none t
+
+opening_loses : (past : List Item) (opened server : ℕ) (login : Login) (others : List Put) → owed past ≡ Opens opened server login ∷ others
+    → AllLosing past → AllLosing (Puts (Opens opened server login) ∷ past)
+opening_loses past opened server login others o all = λ link cause now. by_test link cause (opened == link) refl now
+  where
+    by_losing : (link : ℕ) (cause : LinkCause) → (opened == link) ≡ false → Losing link cause past
+        → Losing link cause (Puts (Opens opened server login) ∷ past)
+    by_losing link cause t (unasked is) = unasked is
+    by_losing link cause t (gone is) = gone (no_more link opened (without opened (links past)) (without_keeps_out opened link (links past) is) t)
+    by_losing link cause t (soon is) =
+        absurd (let clash : Opens opened server login ∷ others ≡ Drops link (drop_cause cause) ∷ [] = sym o ∙ is in cc)
+
+    by_test : (link : ℕ) (cause : LinkCause) (test : Bool) → (opened == link) ≡ test
+        → (if test then opening login else linked link past) ≡ IsLost cause → Losing link cause (Puts (Opens opened server login) ∷ past)
+    by_test link cause true t now = absurd cc
+    by_test link cause false t now = by_losing link cause t (all link cause now)
+
 put_loses : (past : List Item) (put : Put) (others : List Put) → owed past ≡ put ∷ others → AllLosing past → AllLosing (Puts put ∷ past)
+put_loses past (Hands packets) others o all = λ link cause now.
+    stays past (Hands packets) link cause (λ is. let clash : Hands packets ∷ others ≡ Drops link (drop_cause cause) ∷ [] = sym o ∙ is in cc)
+    refl (all link cause now)
+put_loses past (Routes login) others o all = λ link cause now.
+    stays past (Routes login) link cause (λ is. let clash : Routes login ∷ others ≡ Drops link (drop_cause cause) ∷ [] = sym o ∙ is in cc)
+    refl (all link cause now)
+put_loses past (LogsInto to packets) others o all = λ link cause now.
+    stays past (LogsInto to packets) link cause (λ is. let clash : LogsInto to packets ∷ others ≡ Drops link (drop_cause cause) ∷ [] = sym o ∙ is in cc)
+    refl (all link cause now)
+put_loses past (Opens opened server login) others o all = opening_loses past opened server login others o all
 put_loses past (Tells number tell) others o all = λ link cause now.
     stays past (Tells number tell) link cause (λ is. let clash : Tells number tell ∷ others ≡ Drops link (drop_cause cause) ∷ [] = sym o ∙ is in cc)
     refl (all link cause now)
@@ -246,10 +374,13 @@ due_loses : {config : Config} {past : List Item} {item : Item} → owed past ≡
     → AllLosing (item ∷ past)
 due_loses {past = past} o (comes {link = from} {said = said} has a it) all = coming_loses past from said o it all
 due_loses o (takes p f) all = λ link cause now. still o (λ less. less) (all link cause now)
-due_loses o (takes_fault p f) all = λ link cause now. still o (λ less. less) (all link cause now)
+due_loses o (connects p f c) all = λ link cause now. still o (λ less. less) (all link cause now)
 
 step_loses : {config : Config} {past : List Item} {item : Item} → Step config past item → AllLosing past → AllLosing (item ∷ past)
 step_loses {past = past} (pays {put = put} {others = others} o) all = put_loses past put others o all
+step_loses (asks o n p k l) all = λ link cause now. still o (λ less. less) (all link cause now)
+step_loses {past = past} (prepares {link = to} o n k c) all =
+    sending_loses past to Prepares (λ link cause now. still o (λ less. less) (all link cause now))
 step_loses {past = past} (sends {link = to} {command = command} o n p s k c) all =
     sending_loses past to (Asks command) (λ link cause now. still o (λ less. less) (all link cause now))
 step_loses (floods o n p above) all = λ link cause now. still o (λ less. less) (all link cause now)
@@ -257,6 +388,7 @@ step_loses (reads o n due) all = due_loses o due all
 
 input_loses : (past : List Item) (item : Item) → owed past ≡ [] → IsInput item past → AllLosing past → AllLosing (item ∷ past)
 input_loses past (ClientBytes bytes) o input all = λ link cause now. still o (λ less. less) (all link cause now)
+input_loses past (LinkReady ready) o input all = ready_loses past ready o all
 input_loses past (LinkBytes from bytes) o input all = bytes_lose past from bytes o all
 input_loses past ClientGone o input all = λ link cause now. still o (λ less. less) (all link cause now)
 input_loses past (LinkLost lost) o input all = λ link cause now.
@@ -271,13 +403,21 @@ begun_loses link server = λ other cause now. by_test other cause (link == other
     by_test other cause true now = absurd cc
     by_test other cause false now = absurd cc
 
+begins_loses : (item : Item) → IsBeginning item → AllLosing (item ∷ [])
+begins_loses (Accepted session scramble) its = λ other cause now. absurd cc
+begins_loses (TurnsAway told) its = λ other cause now. absurd cc
+begins_loses (Began link server) its = begun_loses link server
+begins_loses _ its = absurd its
+
 legal_losing : {config : Config} {past : List Item} → IsRecord config past → is_starved past ≡ false → AllLosing past
-legal_losing (begins link server) fed = begun_loses link server
+legal_losing (begins {item = item} its) fed = begins_loses item its
 legal_losing {config} (goes {past = past} {item = item} legal next) fed =
     let step = of_next config past item next in step_loses step (legal_losing legal (sym (step_starved step) ∙ fed))
-legal_losing {config} (hears {past = past} {item = item} legal rests n input) fed =
-    input_loses past item (rests_owing_nothing config past rests) input (legal_losing legal (sym (input_starved past item input) ∙ fed))
-legal_losing (starves legal once can) fed = absurd cc
+legal_losing (answered legal asked) fed = λ link cause now.
+    still (asks_owing_nothing legal asked) (λ less. less) (legal_losing legal fed link cause now)
+legal_losing {config} (hears {past = past} {item = item} legal rests none n input) fed =
+    input_loses past item (rests_owing_nothing config past rests none) input (legal_losing legal (sym (input_starved past item input) ∙ fed))
+legal_losing (starves legal once can its) fed = absurd cc
 
 -- of a session that owes nothing, a link that it has is lost for nothing else
 abbrev pub AreUnasked : List Item → Type 0

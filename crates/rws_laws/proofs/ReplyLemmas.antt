@@ -17,9 +17,10 @@ use Rattle.rws_record.specs.Values.{pending, reply_number, told}
 use Rattle.rws_record.specs.Rules.{Loss, after_loss_by, is_loss, loss_of, after_loss, owed}
 use Rattle.rws_record.specs.Rules.Loss.{CutsReply, HidesOutcome, TakesState, EndsTransaction, StartsReplay, SendsElsewhere, IsForgotten}
 use Rattle.rws_laws.specs.Causes.{number_behind_all}
-use Rattle.rws_laws.specs.Causes.Asked.{before}
-use Rattle.rws_laws.proofs.Sound.{SentBy, ToldBy, Asking, passed, WaitsBy, same_some}
-use Rattle.rws_laws.proofs.Sound.ToldBy.{none_yet, a_part, all}
+use Rattle.rws_laws.specs.Client.Asked.{before}
+use Rattle.rws_laws.proofs.Sound.{SentBy, ToldBy, Asking, passed, WaitsBy, WaitsOn, same_some}
+use Rattle.rws_laws.proofs.Sound.WaitsOn.{prepares, replies}
+use Rattle.rws_laws.proofs.Sound.ToldBy.{none_told, a_part, all}
 
 -- Numbers of a reply
 
@@ -63,36 +64,41 @@ told_part list payload link pending sent s =
 -- where the pending command wasn't sent, nothing was told
 pub unsent_told : {list : List Payload} {from sent : Option ℕ} {pending : Option Command} (command : Command) → sent ≡ None
     → pending ≡ Some command → ToldBy list from sent pending → (list ≡ []) × (from ≡ None)
-unsent_told command s p none_yet = (refl, refl)
+unsent_told command s p none_told = (refl, refl)
 unsent_told command s p (a_part some) = absurd cc
 unsent_told command s p all = absurd cc
 
 pub told_sent : (list : List Payload) (from sent : Option ℕ) (pending : Option Command) → (list ≡ []) × (from ≡ None)
     → ToldBy list from sent pending
-told_sent list from sent pending none = rw (none.0, none.1) none_yet
+told_sent list from sent pending none = rw (none.0, none.1) none_told
 
 -- Where it was sent
 
-pub sent_there : (command : Command) (pending : Option Command) (link : ℕ) (kept : Option ℕ) → pending ≡ Some command
-    → kept ≡ Some link → SentBy pending (Some link) kept
-sent_there command pending link kept p k = λ other e. (command, p, k ∙ e)
+pub sent_there : (up : ℕ → Bool) (command : Command) (pending : Option Command) (link : ℕ) (kept : Option ℕ) → pending ≡ Some command
+    → kept ≡ Some link → up link ≡ true → SentBy pending (Some link) kept up
+sent_there up command pending link kept p k u = λ other e.
+    (command, p, k ∙ e, subst (λ (l : ℕ). up l ≡ true) (same_some link other e) u)
 
 -- What is awaited
 
 -- what is owed passes the same payloads
-pub owes_same : {exchange : ℕ → Option Exchange} {asked : ℕ → Option Purpose} {pending : Option Command} {sent : Option ℕ} {told : List Payload}
+pub passes_same : {link : ℕ} {e : Exchange} {asked : Option Purpose} {up : Bool} {pending : Option Command} {sent : Option ℕ} {told : List Payload}
+    (owing now : List Put) → passed owing ≡ passed now → WaitsOn link e asked up pending sent told owing
+    → WaitsOn link e asked up pending sent told now
+passes_same owing now same (prepares a u) = prepares a u
+passes_same {told = list} owing now same (replies awaited) = replies (record {
+  command = awaited.command;
+  asked_it = awaited.asked_it;
+  kind = awaited.kind;
+  in_form = awaited.in_form ∙ ap (λ (more : List Payload). list ++ more) same;
+  waits = awaited.waits;
+  sent_there = awaited.sent_there;
+})
+
+pub owes_same : {exchange : ℕ → Option Exchange} {asked : ℕ → Option Purpose} {up : ℕ → Bool} {pending : Option Command} {sent : Option ℕ} {told : List Payload}
     (owing now : List Put) → passed owing ≡ passed now
-    → WaitsBy exchange asked pending sent told owing → WaitsBy exchange asked pending sent told now
-owes_same {told = list} owing now same waits = λ link e a.
-    let awaited = waits link e a in
-    record {
-      command = awaited.command;
-      asked_it = awaited.asked_it;
-      kind = awaited.kind;
-      in_form = awaited.in_form ∙ ap (λ (more : List Payload). list ++ more) same;
-      waits = awaited.waits;
-      sent_there = awaited.sent_there;
-    }
+    → WaitsBy exchange asked up pending sent told owing → WaitsBy exchange asked up pending sent told now
+owes_same {told = list} owing now same waits = λ link e a. passes_same owing now same (waits link e a)
 
 -- what a loss brings passes nothing
 loss_passes : (loss : Loss) → passed (after_loss_by loss) ≡ []
@@ -120,8 +126,14 @@ pub farewells_pass : (list : List ℕ) → passed (map (λ link. Drops link End)
 farewells_pass [] = refl
 farewells_pass (link ∷ others) = farewells_pass others
 
--- nothing was awaited, since nothing is pending
-pub waits_none : {exchange : ℕ → Option Exchange} {asked : ℕ → Option Purpose} {pending : Option Command} {sent : Option ℕ} {told : List Payload}
+-- only the preamble's reply was awaited, since nothing is pending
+pub none_waits : {link : ℕ} {e : Exchange} {asked : Option Purpose} {up : Bool} {pending : Option Command} {sent : Option ℕ} {told : List Payload}
     {owed : List Put} (now : Option Command) (where_now : Option ℕ) (list : List Payload) (owes : List Put)
-    → pending ≡ None → WaitsBy exchange asked pending sent told owed → WaitsBy exchange asked now where_now list owes
-waits_none now where_now list owes p waits = λ link e a. let awaited = waits link e a in let w = awaited.waits in absurd cc
+    → pending ≡ None → WaitsOn link e asked up pending sent told owed → WaitsOn link e asked up now where_now list owes
+none_waits now where_now list owes p (prepares a u) = prepares a u
+none_waits now where_now list owes p (replies awaited) = let w = awaited.waits in absurd cc
+
+pub waits_none : {exchange : ℕ → Option Exchange} {asked : ℕ → Option Purpose} {up : ℕ → Bool} {pending : Option Command} {sent : Option ℕ} {told : List Payload}
+    {owed : List Put} (now : Option Command) (where_now : Option ℕ) (list : List Payload) (owes : List Put)
+    → pending ≡ None → WaitsBy exchange asked up pending sent told owed → WaitsBy exchange asked up now where_now list owes
+waits_none now where_now list owes p waits = λ link e a. none_waits now where_now list owes p (waits link e a)

@@ -1,358 +1,190 @@
 -- Each step of a legal record keeps it sound.
-use Rattle.std.proofs.Common.{◌≡◌, ℕ, ◌+◌, ◌<◌, Bool, true, false, List, [], ◌∷◌, ◌++◌, length, drop, refl, sym, ap, subst, ◌∙◌, append_assoc, arith, Option, Some, None}
-use Rattle.std.specs.Prelude.{Contains, ◌==◌, if◌then◌else◌}
+use Rattle.std.proofs.Common.{◌≡◌, ℕ, ◌+◌, ◌<◌, Bool, true, false, List, [], ◌∷◌, length, refl, sym, ap, subst, ◌∙◌, arith, inl, inr, Some, None}
+use Rattle.std.specs.Prelude.{Contains, ◌&&◌, ◌⊎◌, ◌==◌, if◌then◌else◌}
 use Rattle.std.proofs.lemmas.Bool.{eqb-true, eq-eqb}
-use Rattle.std.proofs.lemmas.List.{append-nil}
-use Rattle.rws_wire.specs.declared.close_reason.CloseReason.{CloseReason}
-use Rattle.rws_wire.specs.declared.fault.WireFault.{WireFault}
-use Rattle.rws_wire.specs.declared.fault.WireFault.TheVariants as faults
-use Rattle.rws_wire.specs.declared.drop_cause.DropCause.{DropCause}
-use Rattle.rws_wire.specs.declared.drop_cause.DropCause.TheVariants.{BadWire, BadReply, Unasked, End}
+use Rattle.rws_wire.specs.declared.drop_cause.DropCause.TheVariants.{BadWire, BadReply, Unasked, Greeting, Plugin, Login as LoginFails}
 use Rattle.rws_wire.specs.Payloads.{first_payload}
 use Rattle.rws_wire.specs.Payloads.Beginning.{Whole}
-use Rattle.rws_reply.specs.declared.kind.Outcome.{Outcome}
+use Rattle.rws_native.specs.declared.login.Login.{Login}
+use Rattle.rws_front.specs.declared.step.FrontStep.{FrontStep}
+use Rattle.rws_front.specs.declared.step.FrontStep.TheVariants as fronts
+use Rattle.rws_front.specs.Connection.{step_of}
+use Rattle.rws_reply.specs.declared.kind.Kind.TheVariants.{Query as QueryReply}
+use Rattle.rws_reply.specs.declared.kind.Outcome.TheVariants.{Done, Failed}
 use Rattle.rws_reply.specs.declared.kind.Progress.{Progress}
 use Rattle.rws_reply.specs.declared.kind.Progress.TheVariants.{More, Whole as Ends}
 use Rattle.rws_reply.specs.Replies.{Payload}
 use Rattle.rws_reply.specs.declared.role.Role.{Role}
 use Rattle.rws_reply.specs.Tracking.{progress, role}
-use Rattle.rws_reply.specs.ClientForm.{client_reply}
-use Rattle.rws_wire.specs.Packets.{number_behind}
 use Rattle.rws_link.specs.declared.step.LinkCause.{LinkCause}
 use Rattle.rws_link.specs.declared.step.LinkCause.TheVariants as losses
 use Rattle.rws_link.specs.declared.step.LinkStep.{LinkStep}
 use Rattle.rws_link.specs.declared.step.LinkStep.TheVariants as steps
-use Rattle.rws_link.specs.Stepping.{LinkState, Rests, Awaits, IsLost, Exchange, is_some_byte, sent, step, with_part}
+use Rattle.rws_link.specs.Stepping.{LinkState, LogsIn, Rests, Awaits, IsLost, Exchange, is_new, is_some_byte, step}
+use Rattle.rws_link.specs.declared.handshake.Handshake.{Handshake}
 use Rattle.rws_config.specs.declared.config.Config.{Config}
 use Rattle.rws_config.specs.declared.limits.TheConstants.{SERVER_PAYLOAD}
 use Rattle.rws_record.specs.declared.command.Command.{Command}
-use Rattle.rws_record.specs.declared.request.Request.{Request}
-use Rattle.rws_record.specs.declared.request.Request.TheVariants as requests
-use Rattle.rws_record.specs.Item.{Item, Judged, Tell, Put}
-use Rattle.rws_record.specs.Item.Item.{Began, ClientBytes, LinkBytes, ClientGone, LinkLost, Comes, Takes, TakesFault, Floods, Puts}
-use Rattle.rws_record.specs.Item.Purpose.{Asks}
-use Rattle.rws_record.specs.Item.Put.{Tells, Sends, Drops, Closes}
-use Rattle.rws_record.specs.Item.Tell.{Passes, Owns, Refuses}
-use Rattle.rws_record.specs.Requests.{request_of}
-use Rattle.rws_record.specs.Judging.{judged, judged_by, refusal_of}
-use Rattle.rws_record.specs.Values.{held, links, contains, kept_on, asked_on, awaited, exchange, kind_of, linked, prepared_handle, link_held, sent_for, unread, pending, sent_on, reply_number, told, told_from, is_over, is_starved}
-use Rattle.rws_record.specs.Rules.{after_loss, after_fault, after_flood, flood_limit, after_answer, drop_cause, farewells, owed}
-use Rattle.rws_record.specs.Record.{IsRecord, IsInput}
-use Rattle.rws_record.specs.Record.IsRecord.{begins, steps, hears, starves}
-use Rattle.rws_record.proofs.LinkedLemmas.{Says}
-use Rattle.rws_record.proofs.LinkedLemmas.Says.{part, garbled, wrong, again}
+use Rattle.rws_record.specs.Item.{Item, Put}
+use Rattle.rws_record.specs.Item.Item.{Accepted, TurnsAway, Began, ClientBytes, LinkReady, LinkBytes, ClientGone, LinkLost, Routed, Comes, Connects, Takes, Floods, Puts}
+use Rattle.rws_record.specs.Item.Purpose.{Prepares}
+use Rattle.rws_record.specs.Item.Put.{Routes, Drops}
+use Rattle.rws_record.specs.Judging.{judged}
+use Rattle.rws_record.specs.Values.{fronted, held, login_of, links, contains, kept_on, asked_on, awaited, exchange, is_up, kind_of, linked, link_held, unread, pending, sent_on, told, is_over, is_starved}
+use Rattle.rws_record.specs.Rules.{after_loss, after_connecting, after_flood, after_preparing, flood_limit, drop_cause, farewells, is_free, is_ready, is_same, owed, unasked}
+use Rattle.rws_record.specs.Record.{IsBeginning, IsRecord, IsInput}
+use Rattle.rws_record.specs.Record.IsRecord.{begins, steps, answers as answered, hears, starves}
+use Rattle.rws_record.proofs.LinkedLemmas.{Says, awaits_asked}
+use Rattle.rws_record.proofs.LinkedLemmas.Says.{answers, enters, hurries, fails, breaks, part, garbled, wrong, again}
 use Rattle.rws_record.proofs.StepLemmas.{Due, Step, of_next, rests_owing_nothing}
 use Rattle.rws_record.proofs.WantLemmas.{input_starved, step_starved}
-use Rattle.rws_record.proofs.StepLemmas.Due.{comes, takes, takes_fault}
-use Rattle.rws_record.proofs.StepLemmas.Step.{pays, sends, floods, reads}
-use Rattle.rws_laws.specs.Causes.{Took, Flooded, IsCaused}
-use Rattle.rws_laws.specs.Causes.Flooded.{flooded}
-use Rattle.rws_laws.specs.Causes.Took.{took}
-use Rattle.rws_laws.specs.Causes.TookFault.{took_fault}
-use Rattle.rws_laws.specs.Causes.Asked.{here}
-use Rattle.rws_laws.specs.Causes.IsGarbled.{garbled as garbles}
-use Rattle.rws_laws.specs.Causes.WasUnasked.{earlier}
-use Rattle.rws_laws.proofs.CameLemmas.{Came, bytes_keep, legal_came, left_by, loss_leaves, no_form}
-use Rattle.rws_laws.proofs.LostLemmas.{AreUnasked, legal_unasked, was_unasked}
-use Rattle.rws_laws.proofs.Sound.{Caused, Links, IsAsked, Asking, passed, AwaitedBy, WaitsBy, Sound, its_link, kept_there, goes_with_one, same_some}
-use Rattle.rws_laws.proofs.Sound.Caused.{nothing, drops, closes, tells}
-use Rattle.rws_laws.proofs.Sound.Links.{has_one}
-use Rattle.rws_laws.proofs.Sound.ToldBy.{none_yet, all}
-use Rattle.rws_laws.proofs.LinksLemmas.{is_no_close, links_drop, links_stay, links_close, links_input}
-use Rattle.rws_laws.proofs.ReplyLemmas.{still_asked, asks_on, told_part, unsent_told, told_sent, sent_there, owes_same, lost_passes, drop_passes, farewells_pass, waits_none}
-use Rattle.rws_laws.proofs.OwedLemmas.{farewells_caused, loss_caused, command_caused, fault_caused, flood_caused, CameNext, said, form, grown, owes_then, reply_caused, wrong_caused}
+use Rattle.rws_record.proofs.StepLemmas.Due.{comes, connects, takes}
+use Rattle.rws_record.proofs.StepLemmas.Step.{pays, asks, prepares as prepares_it, sends, floods, reads}
+use Rattle.rws_record.proofs.OpeningLemmas.{asks_owing_nothing}
+use Rattle.rws_laws.specs.Client.{Flooded, IsSaid}
+use Rattle.rws_laws.specs.Client.Flooded.{flooded}
+use Rattle.rws_laws.specs.Client.Asked.{before}
+use Rattle.rws_laws.specs.Servers.{LoginCame, LoginFailed}
+use Rattle.rws_laws.specs.Servers.LoginFailed.{no_greeting, not_served, error_came, other_plugin, no_answer, bad_question}
+use Rattle.rws_laws.specs.Servers.LogsOn.{logs_on as goes_on}
+use Rattle.rws_laws.specs.Servers.NotEntered.{not_entered}
+use Rattle.rws_laws.specs.Servers.IsGarbled.{garbled_login, garbled as garbles}
+use Rattle.rws_laws.specs.Servers.WasUnasked.{behind_login, earlier}
+use Rattle.rws_laws.specs.Causes.{IsRoutable}
+use Rattle.rws_laws.proofs.AskedLemmas.{AskedNow, legal_asked}
+use Rattle.rws_laws.proofs.AskedLemmas.AskedNow.{asked_now}
+use Rattle.rws_laws.proofs.EnteringLemmas.{Entering, IsEntering, is_entering, legal_entering}
+use Rattle.rws_laws.proofs.FrontLemmas as Front
+use Rattle.rws_laws.proofs.FrontLemmas.{front_says, said_so, steady, taken_so}
+use Rattle.rws_laws.proofs.HandshakeLemmas.{answers_so, fails_so, takes_so}
+use Rattle.rws_laws.proofs.CameLemmas.{Came, after_answer_is, after_entering_is, bytes_keep, legal_came, loss_leaves, ready_keeps}
+use Rattle.rws_laws.proofs.LostLemmas.{AreUnasked, its_login, legal_unasked, was_unasked}
+use Rattle.rws_laws.proofs.Sound.{Caused, Links, passed, AwaitedBy, WaitsOn, Sound, kept_there, goes_with, goes_with_one, links_keep, same_some}
+use Rattle.rws_laws.proofs.Sound.WaitsOn.{prepares, replies}
+use Rattle.rws_laws.proofs.Sound.Caused.{nothing, drops, opens, logs_on}
+use Rattle.rws_laws.proofs.Sound.Links.{none_yet, has_one}
+use Rattle.rws_laws.proofs.Sound.ToldBy.{none_told}
+use Rattle.rws_laws.proofs.LinksLemmas.{links_input}
+use Rattle.rws_laws.proofs.ReplyLemmas.{passes_same, still_asked, owes_same, lost_passes, farewells_pass}
+use Rattle.rws_laws.proofs.OwedLemmas.{Arrived, farewells_caused, leaves, loss_caused, flood_caused, misprepared_caused, preparing_caused, said_caused, turning_caused, CameNext, said, wrong_caused}
+use Rattle.rws_laws.proofs.GivenLemmas.{clean, coming_sent, prepares_sound, put_sound, ready_sent, reply_sound, routes_sound, send_sound, take_sound}
 
--- What is given out because it is owed
+-- where a link is free
+both_hold : (a b : Bool) → (a && b) ≡ true → (a ≡ true) × (b ≡ true)
+both_hold true b e = (refl, e)
+both_hold false b e = absurd cc
 
--- what is left to pass on once a payload was told
-one_passed : (list : List Payload) (owing : List Put) (number link : ℕ) (command : Command) (payload : Payload) (outcome : Option Outcome) (others : List Put)
-    → owing ≡ Tells number (Passes link command payload outcome) ∷ others
-    → list ++ passed owing ≡ (list ++ payload ∷ []) ++ passed (drop 1 owing)
-one_passed list owing number link command payload outcome others o = rw o (sym (append_assoc list (payload ∷ []) (passed others)))
+at_rest : (link : LinkState) → is_ready link ≡ true → link ≡ Rests
+at_rest (LogsIn handshake bytes) e = absurd cc
+at_rest Rests e = refl
+at_rest (Awaits e bytes) is = absurd cc
+at_rest (IsLost cause) e = absurd cc
 
--- something is given out that changes nothing but what is owed
-record IsQuiet (put : Put) (past : List Item) : Type 0 where
-  links : links (Puts put ∷ past) ≡ links past
-  kept : kept_on (Puts put ∷ past) ≡ kept_on past
-  over : is_over (Puts put ∷ past) ≡ is_over past
-  pending : pending (Puts put ∷ past) ≡ pending past
-  sent : sent_on (Puts put ∷ past) ≡ sent_on past
-  told : told (Puts put ∷ past) ≡ told past
-  from : told_from (Puts put ∷ past) ≡ told_from past
-  number : reply_number (Puts put ∷ past) ≡ reply_number past
-  exchange : (link : ℕ) → exchange link (Puts put ∷ past) ≡ exchange link past
-  asked : (link : ℕ) → asked_on link (Puts put ∷ past) ≡ asked_on link past
-  owes : owed (Puts put ∷ past) ≡ drop 1 (owed past)
+pub freed : (prepared : Bool) (link : ℕ) (past : List Item) → is_free prepared link past ≡ true
+    → (contains link (links past) ≡ true) × (is_same prepared (is_up link past) ≡ true) × (linked link past ≡ Rests)
+freed prepared link past e =
+    let all = both_hold (contains link (links past)) (is_same prepared (is_up link past) && is_ready (linked link past)) e in
+    let rest = both_hold (is_same prepared (is_up link past)) (is_ready (linked link past)) all.1 in
+    (all.0, rest.0, at_rest (linked link past) rest.1)
 
-module _ (config : Config) (past : List Item) (sound : Sound config past) where
-  quiet_sound : (put : Put) (others : List Put) → owed past ≡ put ∷ others → is_no_close (put ∷ others) ≡ true
-      → passed (put ∷ others) ≡ passed others → IsQuiet put past → Caused config others (Puts put ∷ past)
-      → Sound config (Puts put ∷ past)
-  quiet_sound put others o c p q rest =
-      let left : owed (Puts put ∷ past) ≡ others = q.owes ∙ ap (drop 1) o in
-      record {
-        one_link = links_stay put o c q.links q.kept q.over sound.one_link;
-        sent = rw (q.pending, q.sent, q.kept) sound.sent;
-        telling = rw (q.told, q.from, q.sent, q.pending) sound.telling;
-        asks = still_asked q.pending q.number q.told sound.asks;
-        waits = λ other e a. rw (q.pending, q.sent, q.told, q.asked other)
-            (owes_same (owed past) (owed (Puts put ∷ past)) (ap passed o ∙ p ∙ sym (ap passed left)) sound.waits other e (sym (q.exchange other) ∙ a));
-        owes = subst (λ (list : List Put). Caused config list (Puts put ∷ past)) (sym left) rest;
-      }
-
-  tell_sound : (number : ℕ) (tell : Tell) (others : List Put) → owed past ≡ Tells number tell ∷ others
-      → IsCaused config (Tells number tell) past → Caused config others (Puts (Tells number tell) ∷ past)
-      → Sound config (Puts (Tells number tell) ∷ past)
-  tell_sound number (Passes link command payload (Some outcome)) others o cause rest = record {
-    one_link = links_stay (Tells number (Passes link command payload (Some outcome))) o refl refl refl refl sound.one_link;
-    sent = λ other e. absurd cc;
-    telling = all;
-    asks = λ other e. absurd cc;
-    waits = λ other e a.
-        let awaited = sound.waits other e a in
-        let same : link ≡ other = same_some link other (sym cause.0.of_reply.sent ∙ awaited.sent_there) in
-        let none : exchange other past ≡ None = rw same at cause.2 in
-        absurd cc;
-    owes = rw o rest;
-  }
-  tell_sound number (Passes link command payload None) others o cause rest = record {
-    one_link = links_stay (Tells number (Passes link command payload None)) o refl refl refl refl sound.one_link;
-    sent = sound.sent;
-    telling = told_part (told past) payload link (pending past) (sent_on past) cause.0.of_reply.sent;
-    asks = asks_on number link command payload cause.0.of_reply.pending.waits cause.0.counts sound.asks;
-    waits = λ other e a.
-        let awaited = sound.waits other e a in
-        record {
-          command = awaited.command;
-          asked_it = awaited.asked_it;
-          kind = awaited.kind;
-          in_form = awaited.in_form ∙ one_passed (told past) (owed past) number link command payload None others o;
-          waits = awaited.waits;
-          sent_there = awaited.sent_there;
-        };
-    owes = rw o rest;
-  }
-  tell_sound number (Owns status) others o cause rest =
-      quiet_sound (Tells number (Owns status)) others o refl refl (record { links = refl; kept = refl; over = refl; pending = refl; sent = refl; told = refl; from = refl; number = refl; exchange = λ link. refl; asked = λ link. refl; owes = refl }) rest
-  tell_sound number (Refuses error) others o cause rest =
-      quiet_sound (Tells number (Refuses error)) others o refl refl (record { links = refl; kept = refl; over = refl; pending = refl; sent = refl; told = refl; from = refl; number = refl; exchange = λ link. refl; asked = λ link. refl; owes = refl }) rest
-
-  drop_owes : (link : ℕ) (cause : DropCause) → drop 1 (owed past) ≡ [] → IsCaused config (Drops link cause) past
-      → Caused config (owed (Puts (Drops link cause) ∷ past)) (Puts (Drops link cause) ∷ past)
-  drop_owes link BadWire d caused = rw d (rw (append-nil (after_loss link past)) (loss_caused config (Puts (Drops link BadWire) ∷ past) link sound.sent sound.telling (still_asked refl refl refl sound.asks) refl (kept_there sound.one_link link caused.2)))
-  drop_owes link BadReply d caused = rw d (rw (append-nil (after_loss link past)) (loss_caused config (Puts (Drops link BadReply) ∷ past) link sound.sent sound.telling (still_asked refl refl refl sound.asks) refl (kept_there sound.one_link link caused.6)))
-  drop_owes link Unasked d caused = rw d (rw (append-nil (after_loss link past)) (loss_caused config (Puts (Drops link Unasked) ∷ past) link sound.sent sound.telling (still_asked refl refl refl sound.asks) refl (kept_there sound.one_link link caused.1)))
-  drop_owes link End d caused = rw d nothing
-  drop_owes link _ d caused = absurd caused
-
-  drop_sound : (link : ℕ) (cause : DropCause) → owed past ≡ Drops link cause ∷ [] → IsCaused config (Drops link cause) past
-      → Sound config (Puts (Drops link cause) ∷ past)
-  drop_sound link cause o caused =
-      let d : drop 1 (owed past) ≡ [] = ap (drop 1) o in
-      record {
-        one_link = links_drop config past link cause caused d sound.one_link;
-        sent = sound.sent;
-        telling = sound.telling;
-        asks = still_asked refl refl refl sound.asks;
-        waits = owes_same (owed past) (owed (Puts (Drops link cause) ∷ past)) (ap passed o ∙ sym (drop_passes link cause past d)) sound.waits;
-        owes = drop_owes link cause d caused;
-      }
-
-  close_sound : (reason : CloseReason) → owed past ≡ Closes reason ∷ [] → Sound config (Puts (Closes reason) ∷ past)
-  close_sound reason o = record {
-    one_link = links_close reason sound.one_link;
-    sent = sound.sent;
-    telling = sound.telling;
-    asks = still_asked refl refl refl sound.asks;
-    waits = owes_same (owed past) (farewells past) (ap passed o ∙ sym (farewells_pass (links past))) sound.waits;
-    owes = farewells_caused config past (Puts (Closes reason) ∷ past) sound.one_link refl refl;
-  }
-
-  put_sound : (put : Put) (others : List Put) → owed past ≡ put ∷ others → Caused config (put ∷ others) past
-      → Sound config (Puts put ∷ past)
-  put_sound put others o (tells {number = number} {tell = tell} cause rest) = tell_sound number tell others o cause rest
-  put_sound put others o (drops {link = link} {cause = why} cause) = drop_sound link why o cause
-  put_sound put others o (closes {reason = reason} cause) = close_sound reason o
-
-  -- The pending command is sent
-
-  module _ (link : ℕ) (command : Command) (o : owed past ≡ []) (p : pending past ≡ Some command) (s : sent_on past ≡ None) where
-    now_awaited : (other : ℕ) (e : Exchange) (same : Bool) → (link == other) ≡ same
-        → awaited (if same then sent (sent_for (Asks command)) (Some (kind_of (Asks command))) else linked other past) ≡ Some e
-        → AwaitedBy other e (if same then Some (Asks command) else asked_on other past) (pending past) (Some link) (told past)
-        (owed (Puts (Sends link (Asks command)) ∷ past))
-    now_awaited other e true t a =
-        let is : record { kind = command.kind; next = number_behind 0 command.payload; sofar = [] } ≡ e = same_some _ e a in
-        record {
-          command = command;
-          asked_it = refl;
-          kind = sym (ap (λ (x : Exchange). x.kind) is);
-          in_form = subst (λ (x : Exchange). client_reply command.kind prepared_handle x.sofar ≡ told past ++ passed (drop 1 (owed past))) is
-              (rw (o, (unsent_told command s p sound.telling).0) (no_form command.kind));
-          waits = p;
-          sent_there = ap Some (eqb-true link other t);
-        }
-    now_awaited other e false t a = let awaits = sound.waits other e a in let there = awaits.sent_there in absurd cc
-
-    send_sound : (one : ℕ) → links past ≡ one ∷ [] → kept_on past ≡ Some one → kept_on past ≡ Some link
-        → Sound config (Puts (Sends link (Asks command)) ∷ past)
-    send_sound one l k kept = record {
-      one_link = has_one one l k;
-      sent = sent_there command (pending past) link (kept_on past) p kept;
-      telling = told_sent (told past) (told_from past) (Some link) (pending past) (unsent_told command s p sound.telling);
-      asks = still_asked refl refl refl sound.asks;
-      waits = λ other e a. now_awaited other e (link == other) refl a;
-      owes = rw o nothing;
-    }
-
-  -- The client's next command, or its fault, is taken up
-
-  module _ (payload rest : Payload) (number : ℕ) (p : pending past ≡ None) where
-    abbrev it : Request → Judged
-    it request = judged_by (refusal_of request) request payload number
-
-    took_it : (request : Request) → request_of payload ≡ request
-        → first_payload config.command_bytes 0 (held config past) ≡ Whole payload number rest
-        → Took config payload number (Takes (it request) number ∷ past)
-    took_it request r f = subst (λ (its : Judged). Took config payload number (Takes its number ∷ past)) (ap it r) (took p f)
-
-    now_asked : (request : Request) → request_of payload ≡ request
-        → first_payload config.command_bytes 0 (held config past) ≡ Whole payload number rest
-        → Asking config (Takes (it request) number ∷ past)
-    now_asked requests.Query r f = λ command e.
-        subst (λ (its : Command). IsAsked config its (Takes (it requests.Query) number ∷ past)) (same_some _ command e)
-        (record { asked = here (took_it requests.Query r f) (ap it r); counts = refl })
-    now_asked requests.FieldList r f = λ command e.
-        subst (λ (its : Command). IsAsked config its (Takes (it requests.FieldList) number ∷ past)) (same_some _ command e)
-        (record { asked = here (took_it requests.FieldList r f) (ap it r); counts = refl })
-    now_asked requests.Quit r f = λ command e. absurd cc
-    now_asked requests.Ping r f = λ command e. absurd cc
-    now_asked requests.Unsupported r f = λ command e. absurd cc
-    now_asked requests.Unknown r f = λ command e. absurd cc
-
-    take_sound : Links (Takes (judged payload number) number ∷ past)
-        → first_payload config.command_bytes 0 (held config past) ≡ Whole payload number rest
-        → Sound config (Takes (judged payload number) number ∷ past)
-    take_sound one_link f = record {
-      one_link = one_link;
-      sent = λ other e. absurd cc;
-      telling = none_yet;
-      asks = now_asked (request_of payload) refl f;
-      waits = waits_none (pending (Takes (judged payload number) number ∷ past)) None [] (owed (Takes (judged payload number) number ∷ past)) p sound.waits;
-      owes = command_caused config payload number (Takes (judged payload number) number ∷ past) (request_of payload) refl (took p f);
-    }
-
-  fault_passes : (fault : WireFault) → passed (after_fault fault) ≡ []
-  fault_passes (faults.OutOfOrder want got) = refl
-  fault_passes (faults.TooLarge length) = refl
-
-  -- an item that changes nothing of the pending command
-  abbrev Others : Item → Type 0
-  Others item = Links (item ∷ past) → Caused config (owed (item ∷ past)) (item ∷ past) → Sound config (item ∷ past)
-
-  -- A payload of an awaited reply
-
-  -- what the client was told where nothing is owed to it
-  pub clean : owed past ≡ [] → (e : Exchange) (its : Command)
-      → client_reply its.kind prepared_handle e.sofar ≡ told past ++ passed (owed past)
-      → client_reply its.kind prepared_handle e.sofar ≡ told past
-  clean o e its formed =
-      formed ∙ ap (λ (list : List Put). told past ++ passed list) o ∙ append-nil (told past)
-
-  module _ (link : ℕ) (e : Exchange) (command : Command) (payload rest : Payload) (number : ℕ) (o : owed past ≡ [])
-      (next : CameNext config past link e command payload rest number) where
-    -- what is awaited once the link said something
-    then_awaited : (said : LinkStep) (owes : List Put)
-        → ((other : ℕ) (x : Exchange) → link ≡ other → exchange link (Comes link said ∷ past) ≡ Some x
-        → AwaitedBy other x (asked_on link past) (pending past) (sent_on past) (told past) owes)
-        → WaitsBy (λ other. exchange other (Comes link said ∷ past)) (λ other. asked_on other past) (pending past) (sent_on past) (told past) owes
-    then_awaited said owes mine = λ other x a. by_link other x (link == other) refl a
-      where
-        by_link : (other : ℕ) (x : Exchange) (same : Bool) → (link == other) ≡ same → exchange other (Comes link said ∷ past) ≡ Some x
-            → AwaitedBy other x (asked_on other past) (pending past) (sent_on past) (told past) owes
-        by_link other x true t a =
-            let same : link ≡ other = eqb-true link other t in
-            subst (λ (l : ℕ). AwaitedBy other x (asked_on l past) (pending past) (sent_on past) (told past) owes) same
-            (mine other x same (subst (λ (l : ℕ). exchange l (Comes link said ∷ past) ≡ Some x) (sym same) a))
-        by_link other x false t a =
-            let a : exchange other past ≡ Some x = rw t at a in
-            let awaits = sound.waits other x a in
-            let same : link ≡ other = same_some link other (sym next.sent ∙ awaits.sent_there) in
-            let yes : (link == other) ≡ true = eq-eqb link other same in absurd cc
-
-    -- it is lost, and given up for it
-    lost_sound : (cause : LinkCause) → exchange link (Comes link (steps.Lost cause) ∷ past) ≡ None → Links (Comes link (steps.Lost cause) ∷ past)
-        → Caused config (Drops link (drop_cause cause) ∷ []) (Comes link (steps.Lost cause) ∷ past)
-        → Sound config (Comes link (steps.Lost cause) ∷ past)
-    lost_sound cause none one_link owes = record {
-      one_link = one_link;
-      sent = sound.sent;
-      telling = sound.telling;
-      asks = still_asked refl refl refl sound.asks;
-      waits = then_awaited (steps.Lost cause) (Drops link (drop_cause cause) ∷ [])
-          (λ other x same a. let clash : None ≡ Some x = sym none ∙ a in absurd cc);
-      owes = owes;
-    }
-
-    -- a payload came
-    module _ (its : Role) (far : Progress) (r : role e.kind e.sofar payload ≡ Some its) (p : progress e.kind e.sofar payload ≡ Some far) where
-      abbrev its_said : LinkStep
-      its_said = said config past link e command payload rest number next its far r p
-
-      abbrev its_form : Payload
-      its_form = form config past link e command payload rest number next its far r p
-
-      abbrev answer : Progress → List Put
-      answer far = after_answer link command its_form far (is_some_byte rest) (reply_number past)
-
-      goes_awaited : (its_far : Progress) (other : ℕ) (x : Exchange) → link ≡ other
-          → left_by its_far (with_part payload number e) ≡ Some x
-          → AwaitedBy other x (asked_on link past) (pending past) (sent_on past) (told past) (answer its_far)
-      goes_awaited More other x same g =
-          let is : with_part payload number e ≡ x = same_some _ x g in
-          record {
-            command = command;
-            asked_it = next.asked_it;
-            kind = sym (ap (λ (y : Exchange). y.kind) is) ∙ next.kind;
-            in_form = subst (λ (y : Exchange). client_reply command.kind prepared_handle y.sofar ≡ told past ++ its_form ∷ []) is
-                (grown config past link e command payload rest number next its far r p);
-            waits = next.pending;
-            sent_there = next.sent ∙ ap Some same;
-          }
-      goes_awaited (Ends outcome) other x same g = absurd cc
-
-      reply_sound : Links (Comes link its_said ∷ past) → Sound config (Comes link its_said ∷ past)
-      reply_sound one_link =
-          let owed_now : owed (Comes link its_said ∷ past) ≡ answer far = rw next.asked_it refl in
-          record {
-            one_link = one_link;
-            sent = sound.sent;
-            telling = sound.telling;
-            asks = still_asked refl refl refl sound.asks;
-            waits = subst (λ (list : List Put). WaitsBy (λ other. exchange other (Comes link its_said ∷ past)) (λ other. asked_on other past) (pending past) (sent_on past) (told past) list)
-                (sym owed_now)
-                (then_awaited its_said (answer far)
-                (λ other x same a. goes_awaited far other x same (sym (owes_then config past link e command payload rest number next its far r p) ∙ a)));
-            owes = subst (λ (list : List Put). Caused config list (Comes link its_said ∷ past)) (sym owed_now)
-                (reply_caused config past link e command payload rest number next its far r p);
-          }
+pub not_up : (up : Bool) → is_same false up ≡ true → up ≡ false
+not_up true e = absurd cc
+not_up false e = refl
 
 -- Each step
 
-module _ (config : Config) (past : List Item) (sound : Sound config past) (came : Came past) (unasked : AreUnasked past) (o : owed past ≡ [])
-    (n : is_over past ≡ false) where
-  came_next : (link : ℕ) (e : Exchange) (payload rest : Payload) (number : ℕ) → Contains (links past) link
+-- the preamble's reply passes nothing
+unasked_passes : (link : ℕ) (behind : Bool) → passed (unasked link behind) ≡ []
+unasked_passes link true = refl
+unasked_passes link false = refl
+
+preparing_passes : (link : ℕ) (far : Progress) (behind : Bool) → passed (after_preparing link far behind) ≡ []
+preparing_passes link More behind = refl
+preparing_passes link (Ends (Done status)) behind = unasked_passes link behind
+preparing_passes link (Ends (Failed code)) behind = refl
+
+connecting_passes : (said : FrontStep) → passed (after_connecting said) ≡ []
+connecting_passes (fronts.Send packets) = refl
+connecting_passes (fronts.LoggedIn login) = refl
+connecting_passes (fronts.End packets reason) = refl
+connecting_passes (fronts.Command payload) = refl
+connecting_passes fronts.Idle = refl
+
+module _ (config : Config) (past : List Item) (sound : Sound config past) (came : Came past) (unasked : AreUnasked past) (entering : IsEntering config past)
+    (o : owed past ≡ []) (n : is_over past ≡ false) where
+  -- What a link says
+
+  its_links : (link : ℕ) (said : LinkStep) → Links (Comes link said ∷ past)
+  its_links link said = links_keep (Comes link said) o refl refl (λ is. is) sound.one_link
+
+  still_waits : (link : ℕ) (said : LinkStep) (owes : List Put) → passed owes ≡ [] → (other : ℕ) (x : Exchange)
+      → (link == other) ≡ false → exchange other past ≡ Some x
+      → WaitsOn other x (asked_on other past) (is_up other (Comes link said ∷ past)) (pending past) (sent_on past) (told past) owes
+  still_waits link said owes passes other x t a =
+      rw t (passes_same (owed past) owes (ap passed o ∙ sym passes) (sound.waits other x a))
+
+  -- one that owes no reply then, and for which nothing is passed on
+  silent_sound : (link : ℕ) (said : LinkStep) → awaited (step (linked link past)).after ≡ None → passed (owed (Comes link said ∷ past)) ≡ []
+      → Caused config (owed (Comes link said ∷ past)) (Comes link said ∷ past) → Sound config (Comes link said ∷ past)
+  silent_sound link said none passes owes = record {
+    one_link = its_links link said;
+    sent = coming_sent past link said sound.sent;
+    telling = sound.telling;
+    asks = still_asked refl refl refl sound.asks;
+    waits = λ other x a. by_link other x (link == other) refl a;
+    owes = owes;
+  }
+    where
+      by_link : (other : ℕ) (x : Exchange) (same : Bool) → (link == other) ≡ same
+          → awaited (if same then (step (linked other past)).after else linked other past) ≡ Some x
+          → WaitsOn other x (asked_on other past) (is_up other (Comes link said ∷ past)) (pending past) (sent_on past) (told past) (owed (Comes link said ∷ past))
+      by_link other x true t a =
+          let same : link ≡ other = eqb-true link other t in
+          let none : awaited (step (linked other past)).after ≡ None = subst (λ (l : ℕ). awaited (step (linked l past)).after ≡ None) same none in
+          let clash : None ≡ Some x = sym none ∙ a in absurd cc
+      by_link other x false t a = still_waits link said (owed (Comes link said ∷ past)) passes other x t a
+
+  -- the link that the session has says that it is lost, for a reason that is known
+  loses_it : (link : ℕ) (cause : LinkCause) → Says (linked link past) (steps.Lost cause)
+      → Caused config (Drops link (drop_cause cause) ∷ []) (Comes link (steps.Lost cause) ∷ past) → Sound config (Comes link (steps.Lost cause) ∷ past)
+  loses_it link cause it owes =
+      silent_sound link (steps.Lost cause) (loss_leaves (linked link past) (steps.Lost cause) cause it refl) refl owes
+
+  -- it then owes no reply
+  lost_owes : (link : ℕ) (cause : LinkCause) → Says (linked link past) (steps.Lost cause) → exchange link (Comes link (steps.Lost cause) ∷ past) ≡ None
+  lost_owes link cause it =
+      let itself : (link == link) ≡ true = eq-eqb link link refl in
+      rw itself (loss_leaves (linked link past) (steps.Lost cause) cause it refl)
+
+  its_contained : (link : ℕ) → Contains (links past) link → contains link (links past) ≡ true
+  its_contained link has =
+      let kept = kept_there sound.one_link link has in
+      let itself : (link == link) ≡ true = eq-eqb link link refl in
+      rw (goes_with_one link o n kept sound.one_link) (rw itself refl)
+
+  unasked_sound : (link : ℕ) (cause : LinkCause) → Says (linked link past) (steps.Lost cause) → Contains (links past) link
+      → linked link past ≡ IsLost cause → cause ≡ losses.Unasked → Sound config (Comes link (steps.Lost cause) ∷ past)
+  unasked_sound link cause it has is same =
+      let is_so : linked link past ≡ IsLost losses.Unasked = is ∙ ap IsLost same in
+      let none : exchange link (Comes link (steps.Lost losses.Unasked) ∷ past) ≡ None =
+      subst (λ (c : LinkCause). exchange link (Comes link (steps.Lost c) ∷ past) ≡ None) same (lost_owes link cause it) in
+      loses_it link cause it
+      (subst (λ (c : LinkCause). Caused config (Drops link (drop_cause c) ∷ []) (Comes link (steps.Lost c) ∷ past)) (sym same)
+      (drops {link = link} {cause = Unasked} ((earlier (was_unasked link past is_so), none), has)))
+
+  arrived_now : (link : ℕ) (e : Exchange) (payload rest : Payload) (number : ℕ) → Contains (links past) link
       → linked link past ≡ Awaits e (link_held link past)
       → first_payload SERVER_PAYLOAD e.next (link_held link past) ≡ Whole payload number rest
+      → Arrived past link e payload rest number
+  arrived_now link e payload rest number has is f =
+      record { has = has; owes = ap awaited is; state = is; begins = f; came = came link e (ap awaited is) }
+
+  came_next : (link : ℕ) (e : Exchange) (payload rest : Payload) (number : ℕ) → Arrived past link e payload rest number
       → (awaits : AwaitedBy link e (asked_on link past) (pending past) (sent_on past) (told past) (owed past))
       → CameNext config past link e awaits.command payload rest number
-  came_next link e payload rest number has is f awaits = record {
-    has = has;
-    owes = ap awaited is;
-    state = is;
-    begins = f;
+  came_next link e payload rest number arrived awaits = record {
+    arrived = arrived;
     kind = awaits.kind;
-    came = came link e (ap awaited is);
     asked_it = awaits.asked_it;
     pending = awaits.waits;
     sent = awaits.sent_there;
@@ -361,116 +193,198 @@ module _ (config : Config) (past : List Item) (sound : Sound config past) (came 
     its = sound.asks awaits.command awaits.waits;
   }
 
-  -- the link that the session has says that it is lost, for a reason that is known
-  loses_it : (link : ℕ) (cause : LinkCause) → Says (linked link past) (steps.Lost cause) → Contains (links past) link
-      → Caused config (Drops link (drop_cause cause) ∷ []) (Comes link (steps.Lost cause) ∷ past) → Sound config (Comes link (steps.Lost cause) ∷ past)
-  loses_it link cause it has owes =
-      let one = goes_with_one o n sound.one_link in
-      record {
-        one_link = has_one one.0 one.1 one.2;
-        sent = sound.sent;
-        telling = sound.telling;
-        asks = still_asked refl refl refl sound.asks;
-        waits = λ other x a. by_link other x (link == other) refl a;
-        owes = owes;
-      }
-    where
-      itself : (link == link) ≡ true
-      itself = eq-eqb link link refl
+  -- the preamble's reply
+  module _ (link : ℕ) (e : Exchange) (payload rest : Payload) (number : ℕ) (arrived : Arrived past link e payload rest number)
+      (asked : asked_on link past ≡ Some Prepares) (up : is_up link past ≡ false) where
+    its_kind : e.kind ≡ QueryReply
+    its_kind =
+        let was = awaits_asked link past e (link_held link past) arrived.state in
+        let same : was.purpose ≡ Prepares = same_some was.purpose Prepares (sym was.is ∙ asked) in
+        sym was.answered ∙ ap kind_of same
 
-      by_link : (other : ℕ) (x : Exchange) (same : Bool) → (link == other) ≡ same
-          → awaited (if same then (step (linked other past)).after else linked other past) ≡ Some x
-          → AwaitedBy other x (asked_on other past) (pending past) (sent_on past) (told past) (Drops link (drop_cause cause) ∷ [])
-      by_link other x true t a =
-          let same : link ≡ other = eqb-true link other t in
-          let its : Says (linked other past) (steps.Lost cause) = subst (λ (l : ℕ). Says (linked l past) (steps.Lost cause)) same it in
-          let clash : None ≡ Some x = sym (loss_leaves (linked other past) (steps.Lost cause) cause its refl) ∙ a in
-          absurd cc
-      by_link other x false t a =
-          owes_same (owed past) (Drops link (drop_cause cause) ∷ []) (ap passed o) sound.waits other x a
+    abbrev the_said : Role → Progress → LinkStep
+    the_said its far = steps.Part payload its far number (is_some_byte rest)
 
-  -- no byte came where nothing was asked, and so nothing is awaited
-  unasked_now : (link : ℕ) → linked link past ≡ IsLost losses.Unasked → exchange link (Comes link (steps.Lost losses.Unasked) ∷ past) ≡ None
-  unasked_now link is =
-      let itself : (link == link) ≡ true = eq-eqb link link refl in
-      rw itself (ap (λ (s : LinkState). awaited (step s).after) is)
+    owed_then : (its : Role) (far : Progress) → owed (Comes link (the_said its far) ∷ past) ≡ after_preparing link far (is_some_byte rest)
+    owed_then its far = rw asked refl
 
-  its_contained : (link : ℕ) → Contains (links past) link → contains link (links past) ≡ true
-  its_contained link has =
-      let one = goes_with_one o n sound.one_link in
-      let same : one.0 ≡ link = its_link one.0 link (links past) one.1 has in
-      let itself : (one.0 == link) ≡ true = eq-eqb one.0 link same in
-      rw one.1 (rw itself refl)
+    on_passes : (its : Role) (far : Progress) → passed (owed (Comes link (the_said its far) ∷ past)) ≡ []
+    on_passes its far = ap passed (owed_then its far) ∙ preparing_passes link far (is_some_byte rest)
 
-  unasked_sound : (link : ℕ) (cause : LinkCause) → Says (linked link past) (steps.Lost cause) → Contains (links past) link
-      → linked link past ≡ IsLost cause → cause ≡ losses.Unasked → Sound config (Comes link (steps.Lost cause) ∷ past)
-  unasked_sound link cause it has is same =
-      let is : linked link past ≡ IsLost losses.Unasked = is ∙ ap IsLost same in
-      loses_it link cause it has
-      (subst (λ (c : LinkCause). Caused config (Drops link (drop_cause c) ∷ []) (Comes link (steps.Lost c) ∷ past)) (sym same)
-      (drops {link = link} {cause = Unasked} ((earlier (was_unasked link past is), unasked_now link is), has)))
+    on_owes : (its : Role) (far : Progress) → role e.kind e.sofar payload ≡ Some its → progress e.kind e.sofar payload ≡ Some far
+        → Caused config (owed (Comes link (the_said its far) ∷ past)) (Comes link (the_said its far) ∷ past)
+    on_owes its far r p =
+        subst (λ (list : List Put). Caused config list (Comes link (the_said its far) ∷ past)) (sym (owed_then its far))
+        (preparing_caused config past link e payload rest number arrived its_kind asked its far r p)
+
+    more_waits : (its : Role) (other : ℕ) (x : Exchange) (same : Bool) → (link == other) ≡ same
+        → awaited (if same then (step (linked other past)).after else linked other past) ≡ Some x
+        → WaitsOn other x (asked_on other past) (is_up other (Comes link (the_said its More) ∷ past)) (pending past) (sent_on past) (told past)
+        (owed (Comes link (the_said its More) ∷ past))
+    more_waits its other x true t a =
+        let same : link ≡ other = eqb-true link other t in
+        prepares (subst (λ (l : ℕ). asked_on l past ≡ Some Prepares) same asked)
+        (rw t (subst (λ (l : ℕ). is_up l past ≡ false) same up))
+    more_waits its other x false t a =
+        still_waits link (the_said its More) (owed (Comes link (the_said its More) ∷ past)) (on_passes its More) other x t a
+
+    prepared_sound : (its : Role) (far : Progress) → role e.kind e.sofar payload ≡ Some its → progress e.kind e.sofar payload ≡ Some far
+        → Sound config (Comes link (the_said its far) ∷ past)
+    prepared_sound its (Ends outcome) r p =
+        let itself : (link == link) ≡ true = eq-eqb link link refl in
+        let none : awaited (step (linked link past)).after ≡ None =
+        rw itself at (leaves past link e payload rest number arrived its (Ends outcome) r p) in
+        silent_sound link (the_said its (Ends outcome)) none (on_passes its (Ends outcome)) (on_owes its (Ends outcome) r p)
+    prepared_sound its More r p = record {
+      one_link = its_links link (the_said its More);
+      sent = coming_sent past link (the_said its More) sound.sent;
+      telling = sound.telling;
+      asks = still_asked refl refl refl sound.asks;
+      waits = λ other x a. more_waits its other x (link == other) refl a;
+      owes = on_owes its More r p;
+    }
+
+  -- its login failed
+  failed_sound : (link : ℕ) (handshake : Handshake) (payload rest : Payload) (number : ℕ) (cause : LinkCause)
+      → LoginCame link handshake payload number rest past → LoginFailed payload handshake cause → Contains (links past) link
+      → Caused config (Drops link (drop_cause cause) ∷ []) (Comes link (steps.Lost cause) ∷ past)
+  failed_sound link handshake payload rest number cause login (no_greeting g) has =
+      drops {link = link} {cause = Greeting} (not_entered login (no_greeting g), has)
+  failed_sound link handshake payload rest number cause login (not_served g s) has =
+      drops {link = link} {cause = Greeting} (not_entered login (not_served g s), has)
+  failed_sound link handshake payload rest number cause login (error_came {code = code} e) has =
+      drops {link = link} {cause = LoginFails code} (inl (not_entered login (error_came e)), has)
+  failed_sound link handshake payload rest number cause login (other_plugin p s) has =
+      drops {link = link} {cause = Plugin} (not_entered login (other_plugin p s), has)
+  failed_sound link handshake payload rest number cause login (no_answer e k p) has =
+      drops {link = link} {cause = BadReply} (inr (inr (not_entered login (no_answer e k p))), has)
+  failed_sound link handshake payload rest number cause login (bad_question e k s) has =
+      drops {link = link} {cause = BadReply} (inr (inr (not_entered login (bad_question e k s))), has)
+
+  -- a payload of a reply
+  part_sound : (link : ℕ) (e : Exchange) (payload rest : Payload) (number : ℕ) (its : Role) (far : Progress)
+      → Arrived past link e payload rest number → role e.kind e.sofar payload ≡ Some its → progress e.kind e.sofar payload ≡ Some far
+      → WaitsOn link e (asked_on link past) (is_up link past) (pending past) (sent_on past) (told past) (owed past)
+      → Sound config (Comes link (steps.Part payload its far number (is_some_byte rest)) ∷ past)
+  part_sound link e payload rest number its far arrived r p (prepares asked up) =
+      prepared_sound link e payload rest number arrived asked up its far r p
+  part_sound link e payload rest number its far arrived r p (replies awaits) =
+      reply_sound config past sound link e awaits.command payload rest number o (came_next link e payload rest number arrived awaits) its far r p
+      (its_links link (steps.Part payload its far number (is_some_byte rest)))
+
+  wrong_owes : (link : ℕ) (e : Exchange) (payload rest : Payload) (number : ℕ) → Arrived past link e payload rest number
+      → progress e.kind e.sofar payload ≡ None
+      → WaitsOn link e (asked_on link past) (is_up link past) (pending past) (sent_on past) (told past) (owed past)
+      → Caused config (Drops link BadReply ∷ []) (Comes link (steps.Lost losses.BadReply) ∷ past)
+  wrong_owes link e payload rest number arrived p (prepares asked up) =
+      misprepared_caused config past link e payload rest number arrived (its_kind link e payload rest number arrived asked up) asked p
+  wrong_owes link e payload rest number arrived p (replies awaits) =
+      wrong_caused config past link e awaits.command payload rest number (came_next link e payload rest number arrived awaits) p
 
   coming_sound : (link : ℕ) (state : LinkState) (said : LinkStep) → linked link past ≡ state → Contains (links past) link → Says state said
       → Sound config (Comes link said ∷ past)
-  coming_sound link state said is has (part {e = e} {unread = bytes} {payload = payload} {rest = rest} {number = number} {its = its} {far = far} f r p) =
-      let one = goes_with_one o n sound.one_link in
-      let awaits = sound.waits link e (ap awaited is) in
+  coming_sound link state said is has (answers {handshake = handshake} {unread = bytes} {payload = payload} {rest = rest} {bytes = packets} {number = number} {next = next} {stage1 = stage1} f r) =
+      let login = its_login past link said handshake bytes is f in
+      silent_sound link (steps.Send packets) (rw is (ap awaited (after_answer_is handshake bytes f r))) refl
+      (logs_on (goes_on login (answers_so handshake payload packets number next stage1 r), has))
+  coming_sound link state said is has (enters {handshake = handshake} {unread = bytes} f r) =
+      silent_sound link steps.LoggedIn (rw is (ap awaited (after_entering_is handshake bytes f r))) refl nothing
+  coming_sound link state said is has (hurries {handshake = handshake} {unread = bytes} {payload = payload} {number = number} f r) =
+      let it : Says (linked link past) (steps.Lost losses.Unasked) = rw is (hurries f r) in
+      loses_it link losses.Unasked it
+      (drops {link = link} {cause = Unasked}
+      ((behind_login (its_login past link said handshake bytes is f) (takes_so handshake payload number r), lost_owes link losses.Unasked it), has))
+  coming_sound link state said is has (fails {handshake = handshake} {unread = bytes} {payload = payload} {rest = rest} {number = number} {cause = cause} f r) =
+      loses_it link cause (rw is (fails f r))
+      (failed_sound link handshake payload rest number cause (its_login past link said handshake bytes is f) (fails_so handshake payload number cause r) has)
+  coming_sound link state said is has (breaks {handshake = handshake} {unread = bytes} {fault = fault} f) =
       let held : link_held link past ≡ bytes = ap unread is in
-      reply_sound config past sound link e awaits.command payload rest number o
-      (came_next link e payload rest number has (rw held is) (rw held f) awaits) its far r p
-      (has_one one.0 one.1 one.2)
+      loses_it link losses.BadWire (rw is (breaks f))
+      (drops {link = link} {cause = BadWire} (fault, garbled_login {handshake = handshake} (rw held is) (rw held f), has))
+  coming_sound link state said is has (part {e = e} {unread = bytes} {payload = payload} {rest = rest} {number = number} {its = its} {far = far} f r p) =
+      let held : link_held link past ≡ bytes = ap unread is in
+      part_sound link e payload rest number its far (arrived_now link e payload rest number has (rw held is) (rw held f)) r p
+      (sound.waits link e (ap awaited is))
   coming_sound link state said is has (garbled {e = e} {unread = bytes} {fault = fault} f) =
       let held : link_held link past ≡ bytes = ap unread is in
-      loses_it link losses.BadWire (rw is (garbled f)) has
+      loses_it link losses.BadWire (rw is (garbled f))
       (drops {link = link} {cause = BadWire} (fault, garbles {e = e} (ap awaited is) (rw held f), has))
   coming_sound link state said is has (wrong {e = e} {unread = bytes} {payload = payload} {rest = rest} {number = number} f p) =
-      let awaits = sound.waits link e (ap awaited is) in
       let held : link_held link past ≡ bytes = ap unread is in
-      loses_it link losses.BadReply (rw is (wrong f p)) has
-      (wrong_caused config past link e awaits.command payload rest number
-      (came_next link e payload rest number has (rw held is) (rw held f) awaits) p)
+      loses_it link losses.BadReply (rw is (wrong f p))
+      (wrong_owes link e payload rest number (arrived_now link e payload rest number has (rw held is) (rw held f)) p
+      (sound.waits link e (ap awaited is)))
   coming_sound link state said is has (again {cause = cause}) =
       unasked_sound link cause (rw is again) has is (unasked link cause (its_contained link has) is)
 
+  -- What comes of the client
+
+  its_front : Front.Says config (fronted config past) (step_of config.accounts (fronted config past)).0
+  its_front = front_says config (fronted config past) (steady config past) entering.going
+
+  connect_sound : (said : FrontStep) → pending past ≡ None → IsSaid config (fronted config past) said → Sound config (Connects said ∷ past)
+  connect_sound said p its = record {
+    one_link = links_keep (Connects said) o refl refl (λ is. is) sound.one_link;
+    sent = sound.sent;
+    telling = sound.telling;
+    asks = still_asked refl refl refl sound.asks;
+    waits = owes_same (owed past) (after_connecting said) (ap passed o ∙ sym (connecting_passes said)) sound.waits;
+    owes = said_caused config past said its;
+  }
+
   due_sound : {item : Item} → Due config past item → Sound config (item ∷ past)
   due_sound (comes {link = link} {said = said} has a it) = coming_sound link (linked link past) said refl has it
-  due_sound (takes {payload = payload} {rest = rest} {number = number} p f) =
-      let one = goes_with_one o n sound.one_link in
-      take_sound config past sound payload rest number p (has_one one.0 one.1 one.2) f
-  due_sound (takes_fault {fault = fault} p f) =
-      let one = goes_with_one o n sound.one_link in
-      record {
-        one_link = has_one one.0 one.1 one.2;
-        sent = sound.sent;
-        telling = sound.telling;
-        asks = still_asked refl refl refl sound.asks;
-        waits = owes_same (owed past) (after_fault fault) (ap passed o ∙ sym (fault_passes config past sound fault)) sound.waits;
-        owes = fault_caused config fault (TakesFault fault ∷ past) (took_fault p f);
-      }
+  due_sound (connects {said = said} p f c) = connect_sound said p (said_so config past said f c its_front)
+  due_sound (takes {payload = payload} p f) =
+      let its = taken_so config past payload f its_front in
+      take_sound config past sound payload.bytes its.1 payload.next p its.0
+      (links_keep (Takes (judged payload.bytes payload.next) payload.next) o refl refl (λ is. is) sound.one_link) its.2
+
+-- What comes from outside
+
+new_awaits : (link : LinkState) → is_new link ≡ true → awaited link ≡ None
+new_awaits (LogsIn handshake bytes) is = refl
+new_awaits Rests is = refl
+new_awaits (Awaits e bytes) is = absurd cc
+new_awaits (IsLost cause) is = refl
 
 module _ (config : Config) (past : List Item) (sound : Sound config past) (o : owed past ≡ []) (n : is_over past ≡ false) where
-  input_links : (item : Item) → IsInput item past → Links (item ∷ past)
-  input_links item input = let one = goes_with_one o n sound.one_link in links_input past item input sound.one_link one.0 one.1 one.2
+  ready_waits : (ready : ℕ) → is_new (linked ready past) ≡ true → (other : ℕ) (e : Exchange) (same : Bool) → (ready == other) ≡ same
+      → exchange other past ≡ Some e
+      → WaitsOn other e (asked_on other past) (if same then true else is_up other past) (pending past) (sent_on past) (told past) []
+  ready_waits ready new other e true t a =
+      let same : ready ≡ other = eqb-true ready other t in
+      let none = new_awaits (linked other past) (subst (λ (l : ℕ). is_new (linked l past) ≡ true) same new) in
+      let clash : None ≡ Some e = sym none ∙ a in absurd cc
+  ready_waits ready new other e false t a = passes_same (owed past) [] (ap passed o) (sound.waits other e a)
 
   input_sound : (item : Item) → IsInput item past → Sound config (item ∷ past)
   input_sound (ClientBytes bytes) input = record {
-    one_link = input_links (ClientBytes bytes) input;
+    one_link = links_input past (ClientBytes bytes) o input sound.one_link;
     sent = sound.sent;
     telling = sound.telling;
     asks = still_asked refl refl refl sound.asks;
     waits = owes_same (owed past) [] (ap passed o) sound.waits;
     owes = nothing;
   }
+  input_sound (LinkReady ready) input = record {
+    one_link = links_input past (LinkReady ready) o input sound.one_link;
+    sent = ready_sent past ready sound.sent;
+    telling = sound.telling;
+    asks = still_asked refl refl refl sound.asks;
+    waits = λ other e a. ready_waits ready input.1 other e (ready == other) refl (sym (ready_keeps past ready other) ∙ a);
+    owes = nothing;
+  }
   input_sound (LinkBytes from bytes) input = record {
-    one_link = input_links (LinkBytes from bytes) input;
+    one_link = links_input past (LinkBytes from bytes) o input sound.one_link;
     sent = sound.sent;
     telling = sound.telling;
     asks = still_asked refl refl refl sound.asks;
-    waits = λ other e a. owes_same (owed past) [] (ap passed o) sound.waits other e (sym (bytes_keep past from bytes other) ∙ a);
+    waits = λ other e a. passes_same (owed past) [] (ap passed o) (sound.waits other e (sym (bytes_keep past from bytes other) ∙ a));
     owes = nothing;
   }
   input_sound ClientGone input = record {
-    one_link = input_links ClientGone input;
+    one_link = links_input past ClientGone o input sound.one_link;
     sent = sound.sent;
     telling = sound.telling;
     asks = still_asked refl refl refl sound.asks;
@@ -478,7 +392,7 @@ module _ (config : Config) (past : List Item) (sound : Sound config past) (o : o
     owes = farewells_caused config past (ClientGone ∷ past) sound.one_link refl refl;
   }
   input_sound (LinkLost gone) input = record {
-    one_link = input_links (LinkLost gone) input;
+    one_link = links_input past (LinkLost gone) o input sound.one_link;
     sent = sound.sent;
     telling = sound.telling;
     asks = still_asked refl refl refl sound.asks;
@@ -488,6 +402,45 @@ module _ (config : Config) (past : List Item) (sound : Sound config past) (o : o
   }
   input_sound _ input = absurd input
 
+-- the worker is asked for the pending command, or has answered
+pub routable : {config : Config} {past : List Item} {command : Command} {login : Login} → owed past ≡ [] → is_over past ≡ false
+    → pending past ≡ Some command → kept_on past ≡ None → login_of past ≡ Some login → Sound config past → IsRoutable config login past
+routable {past = past} {command = command} o n p k l sound = record {
+  command = command;
+  pending = record { waits = p; asked = (sound.asks command p).asked };
+  logged_in = l;
+  nowhere = k;
+  no_link = by_links (goes_with o n sound.one_link);
+}
+  where
+    by_links : (((links past ≡ []) × (kept_on past ≡ None)) ⊎ ((link : ℕ) × (links past ≡ link ∷ []) × (kept_on past ≡ Some link))) → links past ≡ []
+    by_links (inl none) = none.0
+    by_links (inr one) = let clash : None ≡ Some one.0 = sym k ∙ one.2 in absurd cc
+
+answer_sound : {config : Config} {past : List Item} {login : Login} (link server : ℕ) → AskedNow config login past → Sound config past
+    → owed past ≡ [] → Sound config (Routed link server ∷ past)
+answer_sound {config} link server (asked_now {past = past} {command = command} legal o n p k l) sound none =
+    let asked = Puts (Routes _) ∷ past in
+    let way = routable {config = config} {past = asked} none n p k l sound in
+    record {
+      one_link = links_keep (Routed link server) none refl refl (λ is. is) sound.one_link;
+      sent = sound.sent;
+      telling = sound.telling;
+      asks = still_asked refl refl refl sound.asks;
+      waits = owes_same (owed asked) (owed (Routed link server ∷ asked)) (ap passed none) sound.waits;
+      owes = opens (
+        past,
+        refl,
+        record {
+          command = way.command;
+          pending = record { waits = way.pending.waits; asked = before way.pending.asked };
+          logged_in = l;
+          nowhere = k;
+          no_link = way.no_link;
+        },
+      );
+    }
+
 -- too much came behind the pending command
 pub noted : {config : Config} {past : List Item} {command : Command} → pending past ≡ Some command
     → flood_limit config < length (held config past) → Sound config past
@@ -495,14 +448,13 @@ pub noted : {config : Config} {past : List Item} {command : Command} → pending
 noted {command = command} p above sound =
     flooded command (record { waits = p; asked = (sound.asks command p).asked }) refl (omega arith)
 
-flood_sound : {config : Config} {past : List Item} {command : Command} → owed past ≡ [] → is_over past ≡ false
+flood_sound : {config : Config} {past : List Item} {command : Command} → owed past ≡ []
     → pending past ≡ Some command → flood_limit config < length (held config past) → Sound config past
     → Sound config (Floods (flood_limit config + 1) ∷ past)
-flood_sound {config} {past} o n p above sound =
-    let one = goes_with_one o n sound.one_link in
+flood_sound {config} {past} o p above sound =
     let bytes : ℕ = flood_limit config + 1 in
     record {
-      one_link = has_one one.0 one.1 one.2;
+      one_link = links_keep (Floods bytes) o refl refl (λ is. is) sound.one_link;
       sent = sound.sent;
       telling = sound.telling;
       asks = still_asked refl refl refl sound.asks;
@@ -511,20 +463,23 @@ flood_sound {config} {past} o n p above sound =
     }
 
 step_sound : {config : Config} {past : List Item} {item : Item} → Step config past item → Came past
-    → (owed past ≡ [] → AreUnasked past) → Sound config past → Sound config (item ∷ past)
-step_sound {config} {past} (pays {put = put} {others = others} o) came unasked sound =
+    → (owed past ≡ [] → AreUnasked past) → Entering config past → Sound config past → Sound config (item ∷ past)
+step_sound {config} {past} (pays {put = put} {others = others} o) came unasked entering sound =
     put_sound config past sound put others o (subst (λ (list : List Put). Caused config list past) o sound.owes)
-step_sound {config} {past} (sends {link = link} {command = command} o n p s k c) came unasked sound =
-    let one = goes_with_one o n sound.one_link in
-    send_sound config past sound link command o p s one.0 one.1 one.2 k
-step_sound (floods o n p above) came unasked sound = flood_sound o n p above sound
-step_sound {config} {past} (reads o n due) came unasked sound = due_sound config past sound came (unasked o) o n due
+step_sound {config} {past} (asks {login = login} o n p k l) came unasked entering sound = routes_sound config past sound login o
+step_sound {config} {past} (prepares_it {link = link} o n k c) came unasked entering sound =
+    prepares_sound config past sound link o (not_up (is_up link past) (freed false link past c).1)
+step_sound {config} {past} (sends {link = link} {command = command} o n p s k c) came unasked entering sound =
+    send_sound config past sound link command o p s k (freed true link past c).1
+step_sound (floods o n p above) came unasked entering sound = flood_sound o p above sound
+step_sound {config} {past} (reads o n due) came unasked entering sound =
+    due_sound config past sound came (unasked o) (is_entering o n entering) o n due
 
 begun_sound : (config : Config) (link server : ℕ) → Sound config (Began link server ∷ [])
 begun_sound config link server = record {
   one_link = has_one link refl refl;
   sent = λ other e. absurd cc;
-  telling = none_yet;
+  telling = none_told;
   asks = λ command e. absurd cc;
   waits = λ other e a. begun_waits other e (link == other) a;
   owes = nothing;
@@ -534,13 +489,35 @@ begun_sound config link server = record {
     begun_waits other e true a = absurd cc
     begun_waits other e false a = absurd cc
 
+begins_sound : (config : Config) (item : Item) → IsBeginning item → Sound config (item ∷ [])
+begins_sound config (Accepted session scramble) its = record {
+  one_link = none_yet refl refl;
+  sent = λ other e. absurd cc;
+  telling = none_told;
+  asks = λ command e. absurd cc;
+  waits = λ other e a. absurd cc;
+  owes = nothing;
+}
+begins_sound config (TurnsAway told) its = record {
+  one_link = none_yet refl refl;
+  sent = λ other e. absurd cc;
+  telling = none_told;
+  asks = λ command e. absurd cc;
+  waits = λ other e a. absurd cc;
+  owes = turning_caused config told;
+}
+begins_sound config (Began link server) its = begun_sound config link server
+begins_sound config _ its = absurd its
+
 -- until memory is wanting
 pub legal_sound : {config : Config} {past : List Item} → IsRecord config past → is_starved past ≡ false → Sound config past
-legal_sound {config} (begins link server) fed = begun_sound config link server
+legal_sound {config} (begins {item = item} its) fed = begins_sound config item its
 legal_sound {config} (steps {past = past} {item = item} legal e) fed =
     let step = of_next config past item e in
     let before = sym (step_starved step) ∙ fed in
-    step_sound step (legal_came legal) (legal_unasked legal before) (legal_sound legal before)
-legal_sound {config} (hears {past = past} {item = item} legal rests n input) fed =
-    input_sound config past (legal_sound legal (sym (input_starved past item input) ∙ fed)) (rests_owing_nothing config past rests) n item input
-legal_sound (starves legal once can) fed = absurd cc
+    step_sound step (legal_came legal) (legal_unasked legal before) (legal_entering legal) (legal_sound legal before)
+legal_sound (answered {link = link} {server = server} legal asked) fed =
+    answer_sound link server (legal_asked legal asked) (legal_sound legal fed) (asks_owing_nothing legal asked)
+legal_sound {config} (hears {past = past} {item = item} legal rests none n input) fed =
+    input_sound config past (legal_sound legal (sym (input_starved past item input) ∙ fed)) (rests_owing_nothing config past rests none) n item input
+legal_sound (starves legal once can its) fed = absurd cc

@@ -3,7 +3,7 @@ use Rattle.std.proofs.Common.{◌<◌, ◌^◌, List, sym, subst, arith}
 use Rattle.rws_reply.specs.Replies.{Payload, IsReply}
 use Rattle.rws_reply.proofs.ClientLemmas.{client_replies_are_replies}
 use Rattle.rws_record.specs.Values.{prepared_handle}
-use Rattle.rws_laws.specs.Causes.{came_on}
+use Rattle.rws_laws.specs.Servers.{came_on}
 use Rattle.rws_laws.specs.Laws.{WholeReplies}
 use Rattle.rws_laws.proofs.BytesLemmas.{came_fits}
 use Rattle.rws_laws.proofs.CausesLemmas.{causes}

@@ -10,14 +10,14 @@ use Rattle.rws_record.specs.Item.{Item}
 use Rattle.rws_record.specs.Item.Item.{LinkBytes, Puts}
 use Rattle.rws_record.specs.Item.Put.{Tells}
 use Rattle.rws_record.specs.Item.Tell.{Passes}
-use Rattle.rws_record.specs.Values.{told}
+use Rattle.rws_record.specs.Values.{told, asking}
 use Rattle.rws_record.specs.Rules.{next}
 use Rattle.rws_record.specs.Record.{IsRecord}
 use Rattle.rws_record.specs.Run.{Entry, IsRun, next_entry, record_of}
 use Rattle.rws_laws.specs.Causes.{AreCaused}
 use Rattle.rws_laws.specs.Answers.{IsAnswered}
 
--- In a legal record all that was read, told, sent, dropped and closed has its cause.
+-- In a legal record all that was read, told, opened, sent, dropped and closed has its cause.
 abbrev pub Causes : Type 0
 Causes = (config : Config) (past : List Item) → IsRecord config past → AreCaused config past
 
@@ -41,9 +41,10 @@ WholeReplies =
     → HeardBytes past
     → (seen : Outcome) × IsReply command.kind (told past ++ payload ∷ []) seen × (without_state seen ≡ without_state outcome)
 
--- A legal record that rests is answered.
+-- A legal record that rests, and doesn't wait for the worker's answer, is answered.
 abbrev pub Answered : Type 0
-Answered = (config : Config) (past : List Item) → IsRecord config past → next config past ≡ None → IsAnswered config past
+Answered =
+    (config : Config) (past : List Item) → IsRecord config past → next config past ≡ None → asking past ≡ None → IsAnswered config past
 
 -- Where a run rests, each of its sessions is answered.
 abbrev pub AnsweredInRuns : Type 0

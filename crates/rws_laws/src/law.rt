@@ -1,8 +1,8 @@
 //! Laws about a session's record. Each function does nothing; its contract is the law, which is proved with it.
 ghost use Rattle.rws_laws.specs.Laws.{Answered, AnsweredInRuns, Causes, CausesInRuns, WholeReplies};
 
-/// All that a session read, told, sent, dropped and closed has its cause in what stands below it: in the bytes of the client
-/// and of its link.
+/// All that a session read, told, opened, sent, dropped and closed has its cause in what stands below it: in the bytes of the
+/// client and of its link.
 pub fn causes()
     ensures records { Causes }
     ensures runs { CausesInRuns }
@@ -14,7 +14,8 @@ pub fn replies_are_whole()
     ensures { WholeReplies }
 {}
 
-/// A session that rests has answered all that it can answer, and has no link left if it is over.
+/// A session that rests, and waits for no answer of its worker, has answered all that it can answer, and has no link left if it
+/// is over.
 pub fn has_answered()
     ensures records { Answered }
     ensures runs { AnsweredInRuns }
