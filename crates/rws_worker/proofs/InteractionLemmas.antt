@@ -16,6 +16,8 @@ use Rattle.rws_record.specs.Rules.{next, ◌or◌}
 use Rattle.rws_record.specs.Run.{Entry, IsRun, next_entry, record_of, step_of, hearer, hearing, untold, events_of, done_in}
 use Rattle.rws_record.specs.Run.Entry.{Came, Heard, Did}
 use Rattle.rws_record.specs.Run.IsRun.{starts, came, goes_on, starves}
+use Rattle.rws_record.proofs.EntryLemmas.{Next, of_next_entry}
+use Rattle.rws_record.proofs.EntryLemmas.Next.{did as goes_by, answered as goes_answered, heard as goes_hearing}
 use Rattle.rws_worker.specs.Standing.{interactions_of}
 
 -- actions alone give no event, and are taken as they are
@@ -29,9 +31,11 @@ takes_are_taken [] = refl
 takes_are_taken (action ∷ actions) = ap (λ (xs : List Action). action ∷ xs) (takes_are_taken actions)
 
 given_takes_none : (event : Event) → actions_taken (given event) ≡ []
+given_takes_none (events.Accept session scramble) = refl
 given_takes_none (events.Begin session server) = refl
 given_takes_none (events.ClientBytes session bytes) = refl
 given_takes_none (events.ClientGone session) = refl
+given_takes_none (events.LinkReady link) = refl
 given_takes_none (events.LinkBytes link bytes) = refl
 given_takes_none (events.LinkGone link) = refl
 given_takes_none events.End = refl
@@ -51,9 +55,11 @@ no_more session item run =
 -- the end isn't among the events of a run, where they all were given
 
 at_most_one : (event : Event) → length (events_given (given event)) ≤ 1
+at_most_one (events.Accept session scramble) = omega arith
 at_most_one (events.Begin session server) = omega arith
 at_most_one (events.ClientBytes session bytes) = omega arith
 at_most_one (events.ClientGone session) = omega arith
+at_most_one (events.LinkReady link) = omega arith
 at_most_one (events.LinkBytes link bytes) = omega arith
 at_most_one (events.LinkGone link) = omega arith
 at_most_one events.End = omega arith
@@ -75,9 +81,11 @@ record Given (run : List Entry) (event : Event) : Type 0 where
 
 given_last : (run : List Entry) (event : Event) → events_given (interactions_of run) ++ events_given (given event) ≡ events_of run ++ event ∷ []
     → Given run event
+given_last run (events.Accept session scramble) e = record { given_so = refl; told = append_cancel_right _ _ _ e }
 given_last run (events.Begin session server) e = record { given_so = refl; told = append_cancel_right _ _ _ e }
 given_last run (events.ClientBytes session bytes) e = record { given_so = refl; told = append_cancel_right _ _ _ e }
 given_last run (events.ClientGone session) e = record { given_so = refl; told = append_cancel_right _ _ _ e }
+given_last run (events.LinkReady link) e = record { given_so = refl; told = append_cancel_right _ _ _ e }
 given_last run (events.LinkBytes link bytes) e = record { given_so = refl; told = append_cancel_right _ _ _ e }
 given_last run (events.LinkGone link) e = record { given_so = refl; told = append_cancel_right _ _ _ e }
 given_last run events.End e =
@@ -128,16 +136,10 @@ pub record IsCutAt (config : Config) (done : List Interaction) : Type 0 where
   pub parted : interactions_of run ≡ done ++ rest
 
 -- an event is no step of a session, nor what one hears
-no_event : (session : ℕ) (event : Event) (step : Option Item) (told : List (ℕ × Item))
-    → option_map {U = Entry} (λ (item : Item). Did session item) step or hearing told ≡ Some (Came event) → ⊥
-no_event session event (Some item) told e = cc
-no_event session event None [] e = cc
-no_event session event None (first ∷ told) e = cc
-
-next_no_event : (config : Config) (o : Option ℕ) (run : List Entry) (told : List (ℕ × Item)) (event : Event)
-    → step_of config o run or hearing told ≡ Some (Came event) → ⊥
-next_no_event config None run told event e = no_event 0 event None told e
-next_no_event config (Some session) run told event e = no_event session event (next config (record_of session run)) told e
+next_no_event : {config : Config} {run : List Entry} {entry : Entry} (event : Event) → Next config run entry → entry ≡ Came event → ⊥
+next_no_event event (goes_by h n) e = cc
+next_no_event event (goes_answered h a) e = cc
+next_no_event event (goes_hearing quiet none u) e = cc
 
 none_of_none : {A : Type 0} (xs ys : List A) → [] ≡ xs ++ ys → xs ≡ []
 none_of_none [] ys e = refl
@@ -202,15 +204,15 @@ module _ (config : Config) (done : List Interaction) where
       (split (interactions_of run) (Gave event ∷ []) done rest
       (sym (ap (λ (xs : List Interaction). interactions_of run ++ xs) last.given_so) ∙ parted))
   cut (goes_on {run} {entry = Came event} legal step) told rest parted =
-      absurd (next_no_event config (hearer run) run (untold config run) event step)
+      absurd (next_no_event event (of_next_entry config run (Came event) step) refl)
   cut (goes_on {run} {entry = Heard session item} legal step) told rest parted = cut legal told rest parted
   cut (goes_on {run} {entry = Did session item} legal step) told rest parted =
       let outs = outs_of session item (record_of session run) in
       let told_before : IsTold run = sym (no_more session item run) ∙ told in
       by_actions run outs rest told_before (λ between is. cut legal told_before between is)
       (split (interactions_of run) (map Took outs) done rest parted)
-  cut (starves {run} {session} {made} legal h once can) told rest parted =
-      cut legal (sym (no_more session (Starves made) run) ∙ told) rest (sym (append-nil (interactions_of run)) ∙ parted)
+  cut (starves {run} {session} {number} {made} legal h once can its) told rest parted =
+      cut legal (sym (no_more session (Starves made number) run) ∙ told) rest (sym (append-nil (interactions_of run)) ∙ parted)
 
   -- what was done is a front of what passes in a run over just the events that were given
   pub cut_at : (run : List Entry) (rest : List Interaction) → IsRun config run → next_entry config run ≡ None

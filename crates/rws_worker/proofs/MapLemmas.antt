@@ -1,13 +1,9 @@
 -- Maps of which one key changes.
-use Rattle.std.proofs.Common.{◌≡◌, ℕ, ⊎_elim, false, sym, ap, ◌∙◌, Option, Some, is_some}
+use Rattle.std.proofs.Common.{◌≡◌, ℕ, ⊎_elim, false, sym, ap, ◌∙◌, subst, Option, Some, is_some, IfOk, Result, Ok}
 use Rattle.std.proofs.lemmas.Bool.{ne_eqb, cases_lt, le-ltb, lt-ltb}
-use Rattle.std.specs.BTreeMap.{BTreeMap, get, is_at, UpdatesBy, WritesThrough}
+use Rattle.std.specs.BTreeMap.{BTreeMap, is_at, UpdatesBy, WritesThrough, get}
 use Rattle.std.specs.Ordering.{nat_cmp}
-
--- one key of a map changes
-pub record Changes {X : Type 0} (old new : BTreeMap ℕ X) (key : ℕ) (value : Option X) : Type 0 where
-  pub here : get nat_cmp new key ≡ value
-  pub apart : (other : ℕ) → (key ≡ other → ⊥) → get nat_cmp new other ≡ get nat_cmp old other
+use Rattle.rws_worker.specs.Telling.{Changes}
 
 not_at : (key other : ℕ) → (key ≡ other → ⊥) → is_at (nat_cmp key) other ≡ false
 not_at key other apart =
@@ -25,3 +21,7 @@ pub then_changes : {X : Type 0} (old mid new : BTreeMap ℕ X) (key : ℕ) (v w 
     → Changes old new key w
 then_changes old mid new key v w first second =
     record { here = second.here; apart = λ other apart. second.apart other apart ∙ first.apart other apart }
+
+-- what holds of a value that was made
+pub of_made : {A E : Type 0} (P : A → Type 0) (made : Result A E) (value : A) → made ≡ Ok value → IfOk made P → P value
+of_made {A = A} {E = E} P made value is holds = subst (λ (r : Result A E). IfOk r P) is holds

@@ -1,17 +1,18 @@
 -- What a run holds of each session and of each link, one entry further.
-use Rattle.std.proofs.Common.{◌≡◌, ◌==◌, ℕ, ◌<◌, Bool, true, false, not, List, [], ◌∷◌, refl, ◌∙◌, Some, None, arith, if◌then◌else◌}
+use Rattle.std.proofs.Common.{◌≡◌, ◌==◌, ℕ, ◌<◌, Bool, true, false, not, List, [], ◌∷◌, ◌++◌, ◌+◌, refl, ◌∙◌, Option, Some, None, option_map, arith, if◌then◌else◌}
 use Rattle.std.proofs.lemmas.Bool.{ne_eqb, eq-eqb}
 use Rattle.rws_config.specs.declared.config.Config.{Config}
 use Rattle.rws_record.specs.Item.{Item}
-use Rattle.rws_record.specs.Item.Item.{Began, ClientBytes, LinkBytes, ClientGone, LinkLost, Comes, Takes, TakesFault, Floods, Puts, Starves}
-use Rattle.rws_record.specs.Item.Put.{Tells, Sends, Drops, Closes}
+use Rattle.rws_record.specs.Item.Item.{Accepted, TurnsAway, Began, ClientBytes, LinkReady, LinkBytes, ClientGone, LinkLost, Routed, Comes, Connects, Takes, Floods, Puts, Starves}
+use Rattle.rws_record.specs.Item.Put.{Hands, Tells, Routes, Opens, LogsInto, Sends, Drops, Closes}
 use Rattle.rws_record.specs.Values.{opens, links, contains, without}
-use Rattle.rws_record.specs.Run.{Entry, IsRun, record_of, owner, last_link}
+use Rattle.rws_record.specs.Run.{Entry, IsRun, record_of, owner, owner_by, last_link, link_by}
 use Rattle.rws_record.specs.Run.Entry.{Heard, Did}
 use Rattle.rws_record.specs.Run.IsRun.{starts, came, goes_on, starves}
-use Rattle.rws_record.proofs.StepLemmas.{of_next, step_opens_none, input_opens_none}
+use Rattle.rws_record.proofs.StepLemmas.{of_next, input_opens_none}
 use Rattle.rws_record.proofs.EntryLemmas.{Next, of_next_entry}
-use Rattle.rws_record.proofs.EntryLemmas.Next.{did, heard}
+use Rattle.rws_record.proofs.EntryLemmas.Next.{did, answered, heard}
+use Rattle.rws_record.proofs.LinkLemmas.{none_opens, numbered_of, step_opens_next}
 use Rattle.rws_record.proofs.RecordLemmas.{Hearable, each_of, first_of}
 use Rattle.rws_record.proofs.RecordLemmas.Hearable.{begins_it, comes_in}
 
@@ -51,13 +52,6 @@ pub did_last : (session : ℕ) (item : Item) (run : List Entry) → opens item �
     → last_link (Did session item ∷ run) ≡ last_link run
 did_last session item run none = rw none refl
 
-pub opened_here : (session link server : ℕ) (run : List Entry) → owner link (Heard session (Began link server) ∷ run) ≡ Some session
-opened_here session link server run = rw (eq-eqb link link refl)
-
-pub opened_apart : (session opened server link : ℕ) (run : List Entry) → (opened ≡ link → ⊥)
-    → owner link (Heard session (Began opened server) ∷ run) ≡ owner link run
-opened_apart session opened server link run apart = rw (ne_eqb opened link apart)
-
 pub none_some : {A : Type 0} (a : A) → None ≡ Some a → ⊥
 none_some a e = cc
 
@@ -86,45 +80,81 @@ without_has gone link (x ∷ xs) e = by_kept (not (x == gone)) x link (without g
 
 pub still_has : (item : Item) (past : List Item) (link : ℕ) → opens item ≡ None → contains link (links (item ∷ past)) ≡ true
     → contains link (links past) ≡ true
+still_has (Accepted session scramble) past link none e = e
+still_has (TurnsAway told) past link none e = e
 still_has (Began its server) past link none e = absurd cc
 still_has (ClientBytes bytes) past link none e = e
+still_has (LinkReady ready) past link none e = e
 still_has (LinkBytes from bytes) past link none e = e
 still_has ClientGone past link none e = e
 still_has (LinkLost lost) past link none e = without_has lost link (links past) e
+still_has (Routed its server) past link none e = e
 still_has (Comes from said) past link none e = e
+still_has (Connects said) past link none e = e
 still_has (Takes judged number) past link none e = e
-still_has (TakesFault fault) past link none e = e
 still_has (Floods bytes) past link none e = e
-still_has (Starves made) past link none e = e
+still_has (Starves made number) past link none e = e
+still_has (Puts (Hands packets)) past link none e = e
 still_has (Puts (Tells number tell)) past link none e = e
+still_has (Puts (Routes login)) past link none e = e
+still_has (Puts (Opens its server login)) past link none e = absurd cc
+still_has (Puts (LogsInto to packets)) past link none e = e
 still_has (Puts (Sends to purpose)) past link none e = e
 still_has (Puts (Drops given cause)) past link none e = without_has given link (links past) e
 still_has (Puts (Closes reason)) past link none e = e
+
+-- A link that is opened is the one that is new
+
+newest : (opened link : ℕ) → (opened ≡ link → ⊥) → contains link (opened ∷ []) ≡ true → contains link [] ≡ true
+newest opened link apart e = let other : (if false then true else contains link []) ≡ true = rw (ne_eqb opened link apart) at e in other
+
+behind_new : (opened link : ℕ) (list : List ℕ) → (opened ≡ link → ⊥) → contains link (list ++ opened ∷ []) ≡ true
+    → contains link list ≡ true
+behind_new opened link [] apart e = newest opened link apart e
+behind_new opened link (x ∷ xs) apart e =
+    by_first (x == link) (contains link (xs ++ opened ∷ [])) (contains link xs) (behind_new opened link xs apart) e
+
+pub had_it : (opened link : ℕ) (list : List ℕ) → (opened ≡ link → ⊥) → contains link (without opened list ++ opened ∷ []) ≡ true
+    → contains link list ≡ true
+had_it opened link list apart e = without_has opened link list (behind_new opened link (without opened list) apart e)
 
 -- A link above the last one was never opened
 
 abbrev pub Unopened : List Entry → Type 0
 Unopened run = (link : ℕ) → last_link run < link → owner link run ≡ None
 
-heard_unopened : (session : ℕ) (item : Item) (run : List Entry) → Hearable run session item → Unopened run
-    → Unopened (Heard session item ∷ run)
-heard_unopened session item run (begins_it {link = opened} {server = server} none l) unopened link high =
-    opened_apart session opened server link run (λ same. absurd (omega arith)) ∙ unopened link (omega arith)
-heard_unopened session item run (comes_in live input) unopened link high =
-    let none = input_opens_none item (record_of session run) input in
-    heard_owners session item run link none ∙ unopened link (let same = heard_last session item run none in omega arith)
+opens_unopened : (run : List Entry) (session : ℕ) (item : Item)
+    → ((link server : ℕ) → opens item ≡ Some (link, server) → link ≡ last_link run + 1) → Unopened run
+    → (link : ℕ) → link_by (option_map (λ (o : ℕ × ℕ). (session, o.0)) (opens item)) (last_link run) < link
+    → owner_by link (option_map (λ (o : ℕ × ℕ). (session, o.0)) (opens item)) (owner link run) ≡ None
+opens_unopened run session item next unopened link high =
+    by_item (opens item) refl high
+  where
+    by_item : (of : Option (ℕ × ℕ)) → opens item ≡ of → link_by (option_map (λ (o : ℕ × ℕ). (session, o.0)) of) (last_link run) < link
+        → owner_by link (option_map (λ (o : ℕ × ℕ). (session, o.0)) of) (owner link run) ≡ None
+    by_item None o high = unopened link high
+    by_item (Some opened) o high =
+        let it : opened.0 ≡ last_link run + 1 = next opened.0 opened.1 o in
+        rw (ne_eqb opened.0 link (λ same. omega arith)) (unopened link (omega arith))
+
+heard_opens_next : (run : List Entry) (session : ℕ) {item : Item} → Hearable run session item
+    → (link server : ℕ) → opens item ≡ Some (link, server) → link ≡ last_link run + 1
+heard_opens_next run session (begins_it none its next) = next
+heard_opens_next run session {item} (comes_in live input) =
+    none_opens (last_link run + 1) item (input_opens_none item (record_of session run) input)
 
 next_unopened : {config : Config} {run : List Entry} {entry : Entry} → IsRun config run → Next config run entry → Unopened run
     → Unopened (entry ∷ run)
 next_unopened {config} {run} legal (did {session = session} {item = item} h is_next) unopened link high =
-    let none = step_opens_none (of_next config (record_of session run) item is_next) in
-    did_owners session item run link none ∙ unopened link (let same = did_last session item run none in omega arith)
-next_unopened {run = run} legal (heard {session = session} {item = item} quiet u) unopened link high =
-    heard_unopened session item run (first_of (each_of legal).tells u).hearable unopened link high
+    opens_unopened run session item
+    (step_opens_next run session (numbered_of legal) (of_next config (record_of session run) item is_next)) unopened link high
+next_unopened legal (answered h a) unopened link high = unopened link high
+next_unopened {run = run} legal (heard {session = session} {item = item} quiet none u) unopened link high =
+    opens_unopened run session item (heard_opens_next run session (first_of (each_of legal).tells u).hearable) unopened link high
 
 pub unopened : {config : Config} {run : List Entry} → IsRun config run → Unopened run
 unopened starts link high = refl
 unopened (came legal quiet) link high = unopened legal link high
 unopened {config} (goes_on {run = run} {entry = entry} legal e) link high =
     next_unopened legal (of_next_entry config run entry e) (unopened legal) link high
-unopened (starves legal h once can) link high = unopened legal link high
+unopened (starves legal h once can its) link high = unopened legal link high

@@ -1,7 +1,8 @@
 -- What is ahead of a worker.
-use Rattle.std.proofs.Common.{◌≡◌, ℕ, true, false, List, [], ◌∷◌, ◌++◌, map, refl, sym, ap, ◌∙◌, Option, Some, None}
+use Rattle.std.proofs.Common.{◌≡◌, ◌==◌, ℕ, ⊎_elim, true, false, List, [], ◌∷◌, ◌++◌, map, refl, sym, ap, ◌∙◌, Option, Some, None}
+use Rattle.std.proofs.lemmas.Bool.{cases_eq, ne_eqb}
 use Rattle.std.proofs.lemmas.List.{append-nil}
-use Rattle.std.specs.BTreeMap.{get}
+use Rattle.std.specs.BTreeMap.{BTreeMap, get}
 use Rattle.std.specs.Ordering.{nat_cmp}
 use Rattle.rws_wire.specs.Packets.{full_packet, spelling}
 use Rattle.rws_wire.specs.declared.close_reason.CloseReason.TheVariants.{Memory}
@@ -9,14 +10,14 @@ use Rattle.rws_wire.specs.declared.drop_cause.DropCause.TheVariants.{End}
 use Rattle.rws_msgs.specs.ErrLayout.{err_bytes}
 use Rattle.rws_board.specs.declared.action.Action.{Action}
 use Rattle.rws_board.specs.declared.action.Action.TheVariants.{ToClient, Close, Drop}
-use Rattle.rws_session.specs.State.{farewell_packet}
+use Rattle.rws_session.specs.State.{farewell_packet, numbered}
 use Rattle.rws_session.specs.Kept.{Kept, numbers}
 use Rattle.rws_worker.specs.declared.ahead.Ahead.{Ahead}
-use Rattle.rws_worker.specs.declared.ahead.Ahead.TheVariants.{Going, Over, Starved, Unmade}
+use Rattle.rws_worker.specs.declared.ahead.Ahead.TheVariants.{Nothing, Going, Over, Starved, Unmade}
 use Rattle.rws_worker.specs.declared.step.Step.{Step}
 use Rattle.rws_worker.specs.declared.step.Step.TheVariants.{Idle, Act, Broken}
 use Rattle.rws_worker.specs.declared.worker.Worker.{Worker}
-use Rattle.rws_worker.specs.Stepping.{IsIdle, Steps, actions_ahead, all_done_for, drops, endings, endings_by, farewell_ahead, going_in, is_going, is_session, links_ahead, outs_ahead, steps_ahead, told_by}
+use Rattle.rws_worker.specs.Stepping.{IsIdle, Steps, actions_ahead, all_done_for, drops, endings, endings_by, farewell_ahead, going_in, held_outs, is_going, is_session, links_ahead, outs_ahead, outs_by, outs_of_seat, steps_ahead, told_by}
 use Rattle.rws_worker.specs.Standing.{WorkerStands}
 use Rattle.rws_config.specs.declared.config.Config.{Config}
 use Rattle.rws_record.specs.Run.{Entry}
@@ -31,9 +32,10 @@ acts_alone : (actions : List Action) → all_done_for (map Act actions) ≡ acti
 acts_alone [] = refl
 acts_alone (action ∷ actions) = ap (λ (all : List Action). action ∷ all) (acts_alone actions)
 
-there_is_one : (session : ℕ) → told_by session farewell_packet ≡ ToClient session farewell_packet ∷ []
+there_is_one : (session number : ℕ)
+    → told_by session (numbered number farewell_packet) ≡ ToClient session (numbered number farewell_packet) ∷ []
 unfolding full_packet spelling err_bytes
-there_is_one session = refl
+there_is_one session number = refl
 
 -- a worker with nothing ahead
 
@@ -64,19 +66,29 @@ over_does worker kept ahead broken closing = rw (ahead, broken, closing) (acts_f
 
 -- and where memory was wanting to it
 
+-- what is told of a session that ended so
+abbrev pub farewell_by : Kept → List ℕ
+farewell_by kept = numbered kept.state.want_number kept.state.farewell
+
 pub starved_does : (worker : Worker) (session : ℕ) (kept : Kept) → worker.ahead ≡ Starved kept → worker.broken ≡ None
-    → worker.closing ≡ None → actions_ahead worker ≡ kept.outs ++ ends_so session true kept.state.farewell (numbers kept)
+    → worker.closing ≡ None → actions_ahead worker ≡ kept.outs ++ ends_so session true (farewell_by kept) (numbers kept)
 starved_does worker session kept ahead broken closing =
     rw (ahead, broken, closing) (acts_first kept.outs (map Act (drops (numbers kept)))
     ∙ ap (λ (others : List Action). kept.outs ++ others) (acts_alone (drops (numbers kept))))
 
 pub broken_does : (worker : Worker) (session : ℕ) (kept : Kept) → worker.ahead ≡ Starved kept → worker.broken ≡ Some session
     → worker.closing ≡ Some session → kept.state.farewell ≡ farewell_packet
-    → actions_ahead worker ≡ kept.outs ++ ends_so session false kept.state.farewell (numbers kept)
+    → actions_ahead worker ≡ kept.outs ++ ends_so session false (farewell_by kept) (numbers kept)
 broken_does worker session kept ahead broken closing told =
     rw (ahead, broken, closing, told) (acts_first kept.outs _
-    ∙ ap (λ (first : List Action). kept.outs ++ (first ++ Close session Memory ∷ all_done_for (map Act (drops (numbers kept))))) (there_is_one session)
-    ∙ ap (λ (others : List Action). kept.outs ++ ToClient session farewell_packet ∷ Close session Memory ∷ others) (acts_alone (drops (numbers kept))))
+    ∙ ap (λ (first : List Action). kept.outs ++ (first ++ Close session Memory ∷ all_done_for (map Act (drops (numbers kept))))) (there_is_one session kept.state.want_number)
+    ∙ ap (λ (others : List Action). kept.outs ++ ToClient session (numbered kept.state.want_number farewell_packet) ∷ Close session Memory ∷ others) (acts_alone (drops (numbers kept))))
+
+-- or where there was none for it
+
+pub unmade_without_does : (worker : Worker) (session : ℕ) → worker.ahead ≡ Nothing → worker.broken ≡ Some session
+    → worker.closing ≡ Some session → actions_ahead worker ≡ Close session Memory ∷ []
+unmade_without_does worker session ahead broken closing = rw (ahead, broken, closing) refl
 
 pub unmade_does : (worker : Worker) (session link : ℕ) → worker.ahead ≡ Unmade link → worker.broken ≡ Some session
     → worker.closing ≡ Some session → actions_ahead worker ≡ Close session Memory ∷ Drop link End ∷ []
@@ -112,6 +124,29 @@ stands_ahead config old ahead run same w = record {
   rests = w.rests;
   seats = w.seats;
   fetched = λ session kept e g. w.fetched session kept e (sym (ap (is_session session) same) ∙ g);
+  owned = w.owned;
+  owns = w.owns;
+  links = w.links;
+  begun = w.begun;
+}
+
+all_fetched : (session : ℕ) (kept : Kept) (sessions : BTreeMap ℕ Kept) (goes : Option ℕ) (held : List Action)
+    → outs_by goes held sessions ≡ [] → get nat_cmp sessions session ≡ Some kept → (is_session session goes ≡ false → kept.outs ≡ [])
+    → kept.outs ≡ []
+all_fetched session kept sessions None held none e others = others refl
+all_fetched session kept sessions (Some other) held none e others = ⊎_elim
+    (λ (same : other ≡ session). ap outs_of_seat (sym (ap (λ (n : ℕ). get nat_cmp sessions n) same ∙ e)) ∙ none)
+    (λ (apart : other ≡ session → ⊥). others (ne_eqb other session apart))
+    (cases_eq other session)
+
+-- once all was fetched, the worker stands for the same run with nothing ahead
+pub none_ahead : (config : Config) (old : Worker) (run : List Entry) → outs_ahead old ≡ [] → WorkerStands config old run
+    → WorkerStands config (record old { ahead = Nothing }) run
+none_ahead config old run none w = record {
+  legal = w.legal;
+  rests = w.rests;
+  seats = w.seats;
+  fetched = λ session kept e _. all_fetched session kept old.sessions (going_in old.ahead) (held_outs old.ahead) none e (w.fetched session kept e);
   owned = w.owned;
   owns = w.owns;
   links = w.links;

@@ -1,23 +1,32 @@
 -- How a session ends to which memory was wanting.
-use Rattle.std.proofs.Common.{◌≡◌, ℕ, Bool, true, false, List, [], ◌∷◌, ◌++◌, map, refl, sym, ap, ◌∙◌, Some, None, append_assoc}
+use Rattle.std.proofs.Common.{◌≡◌, ℕ, Bool, true, false, List, [], ◌∷◌, ◌++◌, map, refl, sym, ap, ◌∙◌, Option, Some, None, append_assoc}
 use Rattle.std.proofs.lemmas.List.{append-nil}
+use Rattle.rws_wire.specs.Packets.{full_packet, spelling}
 use Rattle.rws_wire.specs.declared.close_reason.CloseReason.TheVariants.{Memory}
 use Rattle.rws_wire.specs.declared.drop_cause.DropCause.TheVariants.{End}
+use Rattle.rws_msgs.specs.ErrLayout.{err_bytes}
 use Rattle.rws_board.specs.declared.action.Action.{Action}
 use Rattle.rws_board.specs.declared.action.Action.TheVariants.{ToClient, Close, Drop}
+use Rattle.rws_native.specs.declared.login.Login.{Login}
 use Rattle.rws_config.specs.declared.config.Config.{Config}
 use Rattle.rws_record.specs.declared.proxy_error.ProxyError.TheVariants.{OutOfMemory}
+use Rattle.rws_record.specs.Errors.{error_of}
 use Rattle.rws_record.specs.Item.{Item, Put}
 use Rattle.rws_record.specs.Item.Item.{Puts, Starves}
 use Rattle.rws_record.specs.Item.Put.{Tells, Drops, Closes}
 use Rattle.rws_record.specs.Item.Tell.{Refuses}
-use Rattle.rws_record.specs.Values.{links, is_over}
-use Rattle.rws_record.specs.Rules.{next, owed, due, next_by}
+use Rattle.rws_record.specs.Values.{asking, links, is_over}
+use Rattle.rws_record.specs.Rules.{next, owed, due, next_by, unless_asking}
 use Rattle.rws_record.specs.Record.{GoesOn}
 use Rattle.rws_record.specs.Record.GoesOn.{stays, then as goes}
 use Rattle.rws_record.specs.Outputs.{actions_of}
-use Rattle.rws_session.specs.State.{farewell_packet}
+use Rattle.rws_session.specs.State.{farewell_packet, numbered}
 use Rattle.rws_worker.specs.Stepping.{drops}
+
+-- the farewell with a number is the packet of that number
+pub farewell_of : (number : ℕ) → numbered number farewell_packet ≡ spelling number (err_bytes (error_of OutOfMemory))
+unfolding full_packet spelling err_bytes
+farewell_of number = refl
 
 -- what is given out where memory is wanting to a session
 abbrev pub ends_so : (session : ℕ) → (over : Bool) → (farewell links : List ℕ) → List Action
@@ -25,10 +34,11 @@ ends_so session true farewell links = drops links
 ends_so session false farewell links = ToClient session farewell ∷ Close session Memory ∷ drops links
 
 -- from a record a session went on until it rested and was over, and gave this out
-pub record Finishes (config : Config) (session : ℕ) (start : List Item) (actions : List Action) : Type 0 where
+pub record Finished (config : Config) (session : ℕ) (start : List Item) (actions : List Action) : Type 0 where
   pub reached : List Item
   pub went_on : GoesOn config start reached
   pub rests : next config reached ≡ None
+  pub unasking : asking reached ≡ None
   pub over : is_over reached ≡ true
   pub given : actions_of session reached ≡ actions_of session start ++ actions
 
@@ -38,58 +48,74 @@ joined before stays = before
 joined before (goes after step) = goes (joined before after) step
 
 module _ (config : Config) (session : ℕ) where
-  then_finishes : (start now : List Item) (given actions : List Action) → GoesOn config start now
-      → actions_of session now ≡ actions_of session start ++ given → Finishes config session now actions
-      → Finishes config session start (given ++ actions)
-  then_finishes start now given actions went did f = record {
+  then_finished : (start now : List Item) (given actions : List Action) → GoesOn config start now
+      → actions_of session now ≡ actions_of session start ++ given → Finished config session now actions
+      → Finished config session start (given ++ actions)
+  then_finished start now given actions went did f = record {
     reached = f.reached;
     went_on = joined went f.went_on;
     rests = f.rests;
+    unasking = f.unasking;
     over = f.over;
     given = f.given ∙ ap (λ (before : List Action). before ++ actions) did ∙ append_assoc (actions_of session start) given actions;
   }
 
-  next_is : (past : List Item) (put : Put) (others : List Put) → owed past ≡ put ∷ others → next config past ≡ Some (Puts put)
-  next_is past put others o = ap (λ (list : List Put). next_by list (is_over past) (due config past)) o
+  next_is : (past : List Item) (put : Put) (others : List Put) → asking past ≡ None → owed past ≡ put ∷ others
+      → next config past ≡ Some (Puts put)
+  next_is past put others none o =
+      ap (λ (asked : Option Login). unless_asking asked (next_by (owed past) (is_over past) (due config past))) none
+      ∙ ap (λ (list : List Put). next_by list (is_over past) (due config past)) o
+
+  at_rest : (past : List Item) → asking past ≡ None → owed past ≡ [] → is_over past ≡ true → next config past ≡ None
+  at_rest past none o over =
+      ap (λ (asked : Option Login). unless_asking asked (next_by (owed past) (is_over past) (due config past))) none
+      ∙ ap (λ (list : List Put). next_by list (is_over past) (due config past)) o
+      ∙ ap (λ (b : Bool). next_by [] b (due config past)) over
 
   -- the links are given up, in order
-  gives_up : (list : List ℕ) (past : List Item) → owed past ≡ map (λ link. Drops link End) list → is_over past ≡ true
-      → Finishes config session past (drops list)
-  gives_up [] past o over = record {
+  gives_up : (list : List ℕ) (past : List Item) → asking past ≡ None → owed past ≡ map (λ link. Drops link End) list → is_over past ≡ true
+      → Finished config session past (drops list)
+  gives_up [] past none o over = record {
     reached = past;
     went_on = stays;
-    rests = rw (o, over) refl;
+    rests = at_rest past none o over;
+    unasking = none;
     over = over;
     given = sym (append-nil (actions_of session past));
   }
-  gives_up (link ∷ others) past o over =
-      then_finishes past (Puts (Drops link End) ∷ past) (Drop link End ∷ []) (drops others)
-      (goes stays (next_is past (Drops link End) (map (λ link. Drops link End) others) o)) refl
-      (gives_up others (Puts (Drops link End) ∷ past) (rw o refl) over)
+  gives_up (link ∷ others) past none o over =
+      then_finished past (Puts (Drops link End) ∷ past) (Drop link End ∷ []) (drops others)
+      (goes stays (next_is past (Drops link End) (map (λ link. Drops link End) others) none o)) refl
+      (gives_up others (Puts (Drops link End) ∷ past) none (rw o refl) over)
 
   -- the session is closed
-  closes : (past : List Item) → owed past ≡ Closes Memory ∷ [] → Finishes config session past (Close session Memory ∷ drops (links past))
-  closes past o =
-      then_finishes past (Puts (Closes Memory) ∷ past) (Close session Memory ∷ []) (drops (links past))
-      (goes stays (next_is past (Closes Memory) [] o)) refl
-      (gives_up (links past) (Puts (Closes Memory) ∷ past) refl refl)
+  closes : (past : List Item) → asking past ≡ None → owed past ≡ Closes Memory ∷ []
+      → Finished config session past (Close session Memory ∷ drops (links past))
+  closes past none o =
+      then_finished past (Puts (Closes Memory) ∷ past) (Close session Memory ∷ []) (drops (links past))
+      (goes stays (next_is past (Closes Memory) [] none o)) refl
+      (gives_up (links past) (Puts (Closes Memory) ∷ past) none refl refl)
 
-  -- one that is over already
-  pub over_ends : (past : List Item) (made : Bool) → is_over past ≡ true → Finishes config session (Starves made ∷ past) (drops (links past))
-  over_ends past made over = gives_up (links past) (Starves made ∷ past) (rw over refl) over
+  module _ (number : ℕ) where
+    -- one that is over already
+    pub over_ends : (past : List Item) (made : Bool) → is_over past ≡ true
+        → Finished config session (Starves made number ∷ past) (drops (links past))
+    over_ends past made over = gives_up (links past) (Starves made number ∷ past) refl (rw over refl) over
 
-  -- one that goes on
-  pub made_ends : (past : List Item) → is_over past ≡ false
-      → Finishes config session (Starves true ∷ past) (ToClient session farewell_packet ∷ Close session Memory ∷ drops (links past))
-  made_ends past over =
-      let o : owed (Starves true ∷ past) ≡ Tells 1 (Refuses OutOfMemory) ∷ Closes Memory ∷ [] = rw over refl in
-      then_finishes (Starves true ∷ past) (Puts (Tells 1 (Refuses OutOfMemory)) ∷ Starves true ∷ past) (ToClient session farewell_packet ∷ [])
-      (Close session Memory ∷ drops (links past))
-      (goes stays (next_is (Starves true ∷ past) (Tells 1 (Refuses OutOfMemory)) (Closes Memory ∷ []) o))
-      refl
-      (closes (Puts (Tells 1 (Refuses OutOfMemory)) ∷ Starves true ∷ past) (rw over refl))
+    -- one that goes on
+    pub made_ends : (past : List Item) → is_over past ≡ false
+        → Finished config session (Starves true number ∷ past)
+        (ToClient session (spelling number (err_bytes (error_of OutOfMemory))) ∷ Close session Memory ∷ drops (links past))
+    made_ends past over =
+        let o : owed (Starves true number ∷ past) ≡ Tells number (Refuses OutOfMemory) ∷ Closes Memory ∷ [] = rw over refl in
+        then_finished (Starves true number ∷ past) (Puts (Tells number (Refuses OutOfMemory)) ∷ Starves true number ∷ past)
+        (ToClient session (spelling number (err_bytes (error_of OutOfMemory))) ∷ [])
+        (Close session Memory ∷ drops (links past))
+        (goes stays (next_is (Starves true number ∷ past) (Tells number (Refuses OutOfMemory)) (Closes Memory ∷ []) refl o))
+        refl
+        (closes (Puts (Tells number (Refuses OutOfMemory)) ∷ Starves true number ∷ past) refl (rw over refl))
 
-  -- one that couldn't be made
-  pub unmade_ends : (past : List Item) → is_over past ≡ false
-      → Finishes config session (Starves false ∷ past) (Close session Memory ∷ drops (links past))
-  unmade_ends past over = closes (Starves false ∷ past) (rw over refl)
+    -- one that couldn't be made
+    pub unmade_ends : (past : List Item) → is_over past ≡ false
+        → Finished config session (Starves false number ∷ past) (Close session Memory ∷ drops (links past))
+    unmade_ends past over = closes (Starves false number ∷ past) refl (rw over refl)

@@ -56,26 +56,32 @@ all_taken {did} so_far old new done left parted none idle d = record {
 pub at_end : (did : List Interaction → Standing → Type 0) (before : List Interaction) (event : Event) → is_end event ≡ true
     → did (before ++ given event) (standing_after event) → did before AtEnd
 at_end did before events.End e d = subst (λ (xs : List Interaction). did xs AtEnd) (append-nil before) d
+at_end did before (events.Accept session scramble) e d = absurd cc
 at_end did before (events.Begin session server) e d = absurd cc
 at_end did before (events.ClientBytes session bytes) e d = absurd cc
 at_end did before (events.ClientGone session) e d = absurd cc
+at_end did before (events.LinkReady link) e d = absurd cc
 at_end did before (events.LinkBytes link bytes) e d = absurd cc
 at_end did before (events.LinkGone link) e d = absurd cc
 
 pub is_given : (event : Event) → is_end event ≡ false → given event ≡ Gave event ∷ []
 is_given events.End e = absurd cc
+is_given (events.Accept session scramble) e = refl
 is_given (events.Begin session server) e = refl
 is_given (events.ClientBytes session bytes) e = refl
 is_given (events.ClientGone session) e = refl
+is_given (events.LinkReady link) e = refl
 is_given (events.LinkBytes link bytes) e = refl
 is_given (events.LinkGone link) e = refl
 
 pub not_at_end : (did : List Interaction → Standing → Type 0) (before : List Interaction) (event : Event) → is_end event ≡ false
     → did (before ++ given event) (standing_after event) → did (before ++ Gave event ∷ []) Going
 not_at_end did before events.End e d = absurd cc
+not_at_end did before (events.Accept session scramble) e d = d
 not_at_end did before (events.Begin session server) e d = d
 not_at_end did before (events.ClientBytes session bytes) e d = d
 not_at_end did before (events.ClientGone session) e d = d
+not_at_end did before (events.LinkReady link) e d = d
 not_at_end did before (events.LinkBytes link bytes) e d = d
 not_at_end did before (events.LinkGone link) e d = d
 

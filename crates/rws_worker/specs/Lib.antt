@@ -1,4 +1,5 @@
 pub mod Stepping
 pub mod Standing
+pub mod InTurn
 pub mod Telling
 pub mod Working

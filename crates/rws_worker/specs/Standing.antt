@@ -1,5 +1,5 @@
 -- For which runs a worker stands. It keeps the sessions that aren't over, and nothing of the run.
-use Rattle.std.specs.Prelude.{◌≡◌, ℕ, true, false, ◌&&◌, List, [], ◌∷◌, ◌++◌, map, Option, Some, None, if◌then◌else◌}
+use Rattle.std.specs.Prelude.{◌≡◌, ℕ, Bool, true, false, ◌&&◌, List, [], ◌∷◌, ◌++◌, map, Option, Some, None, if◌then◌else◌}
 use Rattle.std.specs.BTreeMap.{get}
 use Rattle.std.specs.Ordering.{nat_cmp}
 use Rattle.rws_board.specs.declared.event.Event.{Event}
@@ -36,6 +36,10 @@ abbrev pub SeatStands : Config → ℕ → Option Kept → List Entry → Type 0
 SeatStands config number (Some session) run = IsSeated config number session run
 SeatStands config number None run = is_live (record_of number run) ≡ false
 
+-- the session goes on and has the link
+abbrev pub holds : ℕ → List Item → Bool
+holds link past = is_live past && contains link (links past)
+
 -- The worker stands for a run that rests. What came of its last event may still have to be fetched.
 pub record WorkerStands (config : Config) (worker : Worker) (run : List Entry) : Type 0 where
   pub legal : IsRun config run
@@ -47,13 +51,10 @@ pub record WorkerStands (config : Config) (worker : Worker) (run : List Entry) :
   -- a link's owner is the session for which it was opened, and is there as long as that has the link
   pub owned : (link session : ℕ) → get nat_cmp worker.owners link ≡ Some session → owner link run ≡ Some session
   pub owns : (link session : ℕ) → owner link run ≡ Some session
-      → (is_live (record_of session run) && contains link (links (record_of session run))) ≡ true
+      → holds link (record_of session run) ≡ true
       → get nat_cmp worker.owners link ≡ Some session
   pub links : worker.last_link ≡ last_link run
   pub begun : worker.greatest ≡ greatest run
-
-abbrev pub HasRun : Config → Worker → Type 0
-HasRun config worker = (run : List Entry) × WorkerStands config worker run
 
 -- the run went on over one more event, and rests again; what came of the event is ahead
 pub record Advances (config : Config) (run : List Entry) (event : Event) (worker : Worker) : Type 0 where

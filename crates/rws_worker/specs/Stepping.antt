@@ -6,6 +6,7 @@ use Rattle.rws_wire.specs.declared.close_reason.CloseReason.TheVariants.{Memory}
 use Rattle.rws_wire.specs.declared.drop_cause.DropCause.TheVariants.{End}
 use Rattle.rws_board.specs.declared.action.Action.{Action}
 use Rattle.rws_board.specs.declared.action.Action.TheVariants.{ToClient, Close, Drop}
+use Rattle.rws_session.specs.State.{numbered}
 use Rattle.rws_session.specs.Kept.{Kept, numbers}
 use Rattle.rws_worker.specs.declared.ahead.Ahead.{Ahead}
 use Rattle.rws_worker.specs.declared.ahead.Ahead.TheVariants.{Nothing, Going, Over, Starved, Unmade}
@@ -52,7 +53,7 @@ outs_by None held sessions = held
 
 -- what is told of a session to which memory was wanting
 abbrev pub farewell_ahead : Ahead → List ℕ
-farewell_ahead (Starved k) = k.state.farewell
+farewell_ahead (Starved k) = numbered k.state.want_number k.state.farewell
 farewell_ahead _ = []
 
 -- the links that are given up for want of memory

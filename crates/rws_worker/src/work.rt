@@ -85,9 +85,11 @@ fn is_end(event: &Event) -> bool
 {
     match event {
         Event::End => true,
+        Event::Accept { .. } => false,
         Event::Begin { .. } => false,
         Event::ClientBytes { .. } => false,
         Event::ClientGone { .. } => false,
+        Event::LinkReady { .. } => false,
         Event::LinkBytes { .. } => false,
         Event::LinkGone { .. } => false,
     }

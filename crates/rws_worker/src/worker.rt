@@ -6,9 +6,11 @@ ghost use Rattle.std.specs.Prelude.{◌≡◌, ◌∷◌, ◌≤◌, ◌<◌, �
 ghost use Rattle.rws_board.specs.declared.action.Action.TheVariants as actions;
 ghost use Rattle.rws_config.specs.declared.config.Config.{Config};
 ghost use Rattle.rws_record.specs.Run.{Entry};
-ghost use Rattle.rws_worker.specs.Standing.{Advances, HasRun, WorkerStands};
+ghost use Rattle.rws_worker.specs.Standing.{Advances, WorkerStands};
 ghost use Rattle.rws_worker.specs.Stepping.{IsIdle, Steps, endings, outs_ahead};
 
+mod beginning;
+mod settling;
 mod stepping;
 mod telling;
 
@@ -68,12 +70,12 @@ impl Worker {
     /// that the event is for.
     pub fn give(&mut self, event: Event, config: &Config)
         requires idle { IsIdle self.old }
-        requires run { HasRun config.now self.old }
         requires unspent { self.old.last_link < 2 ^ 64 - 1 }
         ensures advances { (run : List Entry) → WorkerStands config.now self.old run → Advances config.now run event self.new }
         ensures links { self.new.last_link ≤ self.old.last_link + 1 }
     {
         match event {
+            Event::Accept { session, scramble } => self.accept(session, scramble, config),
             Event::Begin { session, server } => self.begin(session, server, config),
             Event::ClientBytes { session, bytes } => self.tell(
                 session,
@@ -81,6 +83,7 @@ impl Worker {
                 config,
             ),
             Event::ClientGone { session } => self.tell(session, SessionInput::ClientGone, config),
+            Event::LinkReady { link } => self.tell_on(link, SessionInput::Ready { link }, config),
             Event::LinkBytes { link, bytes } => self.tell_on(
                 link,
                 SessionInput::Link { link, bytes },

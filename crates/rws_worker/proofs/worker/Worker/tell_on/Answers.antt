@@ -1,9 +1,9 @@
 use Rattle.std.proofs.Common.{◌≡◌, ℕ, sym, ap, ◌∙◌, Option, Some, None, ◌&&◌, refl, arith, []}
 use Rattle.std.specs.BTreeMap.{get}
 use Rattle.std.specs.Ordering.{nat_cmp}
-use Rattle.rws_record.specs.Run.{owner, told_by, record_of, is_live}
-use Rattle.rws_record.specs.Values.{links, contains}
-use Rattle.rws_worker.specs.Standing.{told_through}
+use Rattle.rws_record.specs.Run.{owner, told_by, record_of}
+use Rattle.rws_worker.specs.Standing.{holds, told_through}
+use Rattle.rws_worker.proofs.StepsLemmas.{idle_has_none}
 use Rattle.rws_worker.proofs.RecordLemmas.{none_some}
 use Rattle.rws_worker.proofs.EventLemmas.{passes}
 use Rattle.rws_worker.proofs.TellLemmas.{unheard, not_true}
@@ -20,7 +20,7 @@ returns-in-None-clause-advances c = λ run w event none_begun told_so.
     let none : get nat_cmp c.args.self.now.owners c.args.link ≡ None = sym c.get.ensures.value ∙ sym c.copied.ensures ∙ c.in-None.is in
     let nothing : told_by c.args.config.now event run ≡ [] =
     told_so ∙ unheard c.args.link c.args.input run c.requires.on (owner c.args.link run)
-    (λ session its. not_true (is_live (record_of session run) && contains c.args.link (links (record_of session run)))
-    (λ holds. none_some session (sym none ∙ w.owns c.args.link session its holds))) in
-    passes c.args.config.now c.args.self.now c.args.self.now run event w nothing c.requires.idle c.requires.idle (λ _. refl) (λ _. refl) refl
+    (λ session its. not_true (holds c.args.link (record_of session run)) (λ has. none_some session (sym none ∙ w.owns c.args.link session its has))) in
+    passes c.args.config.now c.args.self.now c.args.self.now run event w nothing c.requires.idle (idle_has_none c.args.self.now c.requires.idle)
+    (λ _. refl) (λ _. refl) refl
     (let z = none_begun in omega arith)
