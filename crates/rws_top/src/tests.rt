@@ -60,7 +60,11 @@ const SETTINGS: &[u8] =
 const EIGHT_SERVERS: &[u8] =
     b"version = 1\nserver = [{name = \"a\", address = \"h:1\"}, {name = \"b\", address = \"h:2\"}, {name = \"c\", address = \"h:3\"}, {name = \"d\", address = \"h:4\"}, {name = \"e\", address = \"h:5\"}, {name = \"f\", address = \"h:6\"}, {name = \"g\", address = \"h:7\"}, {name = \"h\", address = \"h:8\"}]\naccount = [{user = \"app\", password = \"\"}]\n";
 
-/// The files that the program may read: `settings` and `eight`.
+/// Settings by which one session may be open at one time.
+const ONE_SESSION: &[u8] =
+    b"version = 1\nsessions = 1\n[[server]]\nname = \"a\"\naddress = \"127.0.0.1:3306\"\n[[account]]\nuser = \"app\"\npassword = \"\"\n";
+
+/// The files that the program may read: `settings`, `eight` and `single`.
 fn files(alloc: Global, fails: &[u64]) -> Result<MemFiles, Fail> {
     let mut files = FileList::new(alloc);
     files.push(
@@ -70,6 +74,10 @@ fn files(alloc: Global, fails: &[u64]) -> Result<MemFiles, Fail> {
     files.push(
         Text::from_slice(alloc, b"eight")?,
         Text::from_slice(alloc, EIGHT_SERVERS)?,
+    )?;
+    files.push(
+        Text::from_slice(alloc, b"single")?,
+        Text::from_slice(alloc, ONE_SESSION)?,
     )?;
     Ok(MemFiles::new(files, CallList::from_slice(alloc, fails)?))
 }
@@ -160,6 +168,59 @@ fn a_fault_in_mid_stream_ends_the_run(rt: HostRuntime) -> Result<(), Fail> {
     let (ended, sink) = run_over(rt.alloc(), &TRACE, A_PING, &[], &[1])?;
     assert_eq!(rt; ended, 5);
     assert_eq!(rt; sink.as_slice(), PONG);
+    Ok(())
+}
+
+/// Logins, and what is printed.
+const LOGINS: [(&[u8], &[u8]); 4] = [
+    // a client with an empty password is let in
+    (
+        b"accept 2 4142434445464748494a4b4c4d4e4f5051525354\nclient 2 3b00000101a20800000000012d000000000000000000000000000000000000000000000061707000006d7973716c5f6e61746976655f70617373776f726400\n",
+        b"client 2 520000000a31302e362e302d727773706c697400020000004142434445464748000fa72d02003e001500000000000000000000494a4b4c4d4e4f5051525354006d7973716c5f6e61746976655f70617373776f726400\nclient 2 0700000200000002000000\nend 2\n",
+    ),
+    // an answer of 19 bytes is none
+    (
+        b"accept 2 4142434445464748494a4b4c4d4e4f5051525354\nclient 2 4e00000101a20800000000012d00000000000000000000000000000000000000000000007365630013111111111111111111111111111111111111116d7973716c5f6e61746976655f70617373776f726400\n",
+        b"client 2 520000000a31302e362e302d727773706c697400020000004142434445464748000fa72d02003e001500000000000000000000494a4b4c4d4e4f5051525354006d7973716c5f6e61746976655f70617373776f726400\nclient 2 16000002ff15042332383030306163636573732064656e696564\nclose 2 access\nend 2\n",
+    ),
+    // a client that names another plugin is asked for another answer
+    (
+        b"accept 2 4142434445464748494a4b4c4d4e4f5051525354\nclient 2 2b00000101a20800000000012d000000000000000000000000000000000000000000000061707000006f7468657200\nclient 2 00000003\n",
+        b"client 2 520000000a31302e362e302d727773706c697400020000004142434445464748000fa72d02003e001500000000000000000000494a4b4c4d4e4f5051525354006d7973716c5f6e61746976655f70617373776f726400\nclient 2 2c000002fe6d7973716c5f6e61746976655f70617373776f7264004142434445464748494a4b4c4d4e4f505152535400\nclient 2 0700000400000002000000\nend 3\n",
+    ),
+    // its first query opens a link, on which its login is repeated
+    (
+        b"accept 2 4142434445464748494a4b4c4d4e4f5051525354\nclient 2 3b00000101a20800000000012d000000000000000000000000000000000000000000000061707000006d7973716c5f6e61746976655f70617373776f726400\nclient 2 020000000378\nlink 1 4f0000000a31302e362e302d66616b6500010000004141414141414141000fa22d0200ae001500000000000000000000414141414141414141414141006d7973716c5f6e61746976655f70617373776f726400\nlink 1 0700000200000002000000\nlink 1 0700000100000002000000\nlink 1 0700000100000002000000\n",
+        b"client 2 520000000a31302e362e302d727773706c697400020000004142434445464748000fa72d02003e001500000000000000000000494a4b4c4d4e4f5051525354006d7973716c5f6e61746976655f70617373776f726400\nclient 2 0700000200000002000000\nopen 1 0 2\nlink 1 3b00000101a2ae00000000012d000000000000000000000000000000000000000000000061707000006d7973716c5f6e61746976655f70617373776f726400\nlink 1 64000000035345542053455353494f4e2073657373696f6e5f747261636b5f73797374656d5f7661726961626c6573203d20434f4e43415428404073657373696f6e5f747261636b5f73797374656d5f7661726961626c65732c20272c6c6173745f677469642729\nlink 1 020000000378\nclient 2 0700000100000002000000\nend 7\n",
+    ),
+];
+
+/// Events where one session may be open, and what is printed: a client that connects, and a session that begins, too many.
+const TOO_MANY: [(&[u8], &[u8]); 2] = [
+    (
+        b"begin 1 0\naccept 3 4142434445464748494a4b4c4d4e4f5051525354\n",
+        b"client 3 1d000000ff1004233038303034746f6f206d616e7920636f6e6e656374696f6e73\nclose 3 connections\nend 2\n",
+    ),
+    (b"begin 1 0\nbegin 2 0\n", b"close 2 connections\nend 2\n"),
+];
+
+#[test]
+fn clients_log_in(rt: HostRuntime) -> Result<(), Fail> {
+    for (text, printed) in &LOGINS {
+        let (ended, sink) = run_in(rt.alloc(), 4096, text)?;
+        assert_eq!(rt; ended, 0);
+        assert_eq!(rt; sink.as_slice(), *printed);
+    }
+    Ok(())
+}
+
+#[test]
+fn a_session_too_many_is_turned_away(rt: HostRuntime) -> Result<(), Fail> {
+    for (text, printed) in &TOO_MANY {
+        let (ended, sink) = run_with(rt.alloc(), 1024, &["trace", "single"], text, &NONE)?;
+        assert_eq!(rt; ended, 0);
+        assert_eq!(rt; sink.as_slice(), *printed);
+    }
     Ok(())
 }
 
