@@ -107,8 +107,8 @@ fn hear(
     Ok((count, told))
 }
 
-/// A session that awaits a reply, and as many bytes behind its command as it holds unanswered.
-fn full(alloc: Global, config: &Config) -> Result<Session, AllocError> {
+/// A session that awaits a reply, and so many bytes behind its command.
+fn full(alloc: Global, config: &Config, most: usize) -> Result<Session, AllocError> {
     let mut session = Session::begin(alloc, 7, 0, 1, config)?;
     hear(
         alloc,
@@ -116,7 +116,7 @@ fn full(alloc: Global, config: &Config) -> Result<Session, AllocError> {
         Text::from_slice(alloc, COMMAND)?,
         config,
     )?;
-    let behind = vec![in alloc; 0; (config.command_bytes + FLOOD_ROOM) as usize]?;
+    let behind = vec![in alloc; 0; most]?;
     hear(alloc, &mut session, Text::new(behind), config)?;
     Ok(session)
 }
@@ -124,8 +124,9 @@ fn full(alloc: Global, config: &Config) -> Result<Session, AllocError> {
 #[test]
 fn floods(rt: HostRuntime) -> Result<(), Fail> {
     let config = narrow(rt.alloc())?;
-    let mut session = full(rt.alloc(), &config)?;
-    assert!(rt; session.unanswered() == config.command_bytes + FLOOD_ROOM && session.awaits(1));
+    let most = COMMAND_BYTES.least + FLOOD_ROOM;
+    let mut session = full(rt.alloc(), &config, most as usize)?;
+    assert!(rt; session.unanswered() == most && session.awaits(1));
     let one = Text::from_slice(rt.alloc(), b"\0")?;
     let (count, told) = hear(rt.alloc(), &mut session, one, &config)?;
     // 1153, the close, and the drop of the link
