@@ -1,23 +1,18 @@
 -- What boards in memory did, and then did more.
 use Rattle.std.specs.Prelude.{◌≡◌, List, [], ◌∷◌, ◌++◌, ◌⊎◌, Result, Ok, Err, MatchResult, refl}
 use Rattle.std.proofs.Common.{sym, ◌∙◌, ap, subst, inl, inr, append_assoc, append-nil}
-use Rattle.rws_board.specs.Boards.{ListBoardState, ListDid, Standing, IsAllButLast, events_given, actions_taken, given, standing_after}
+use Rattle.rws_board.specs.Boards.{ListBoardState, ListDid, Standing, IsAllButLast, events_given, given, standing_after}
 use Rattle.rws_board.specs.Boards.Standing.{Going, Ended, NextFailed, ActFailed}
-use Rattle.rws_board.specs.declared.action.Action.{Action}
 use Rattle.rws_board.specs.declared.board_fault.BoardFault.{BoardFault}
 use Rattle.rws_board.specs.declared.event.Event.{Event}
 use Rattle.rws_board.specs.declared.interaction.Interaction.{Interaction}
-use Rattle.rws_board.specs.declared.interaction.Interaction.TheVariants.{Gave, Took}
+use Rattle.rws_board.specs.declared.interaction.Interaction.TheVariants.{Gave, Took, Told}
 
 pub events_given-append : (xs ys : List Interaction) → events_given (xs ++ ys) ≡ events_given xs ++ events_given ys
 events_given-append [] ys = refl
 events_given-append (Gave event ∷ xs) ys = ap (λ events. event ∷ events) (events_given-append xs ys)
 events_given-append (Took action ∷ xs) ys = events_given-append xs ys
-
-pub actions_taken-append : (xs ys : List Interaction) → actions_taken (xs ++ ys) ≡ actions_taken xs ++ actions_taken ys
-actions_taken-append [] ys = refl
-actions_taken-append (Gave event ∷ xs) ys = actions_taken-append xs ys
-actions_taken-append (Took action ∷ xs) ys = ap (λ actions. action ∷ actions) (actions_taken-append xs ys)
+events_given-append (Told call ∷ xs) ys = events_given-append xs ys
 
 module _ (a b c : ListBoardState) (xs ys : List Interaction) (first : ListDid a b xs Going) where
   done_more : (zs : List Interaction) → c.done ≡ b.done ++ zs → c.done ≡ a.done ++ (xs ++ zs)
@@ -47,7 +42,7 @@ list_did_more a b c xs ys (ActFailed fault) first next = made next.1
     made (inl all) = (xs ++ next.0, inl (ap (λ zs. xs ++ zs) all), done_more a b c xs ys first next.0 next.2, next.3, ahead_more a b c xs ys first next.3 next.4)
     made (inr but) = (
       xs ++ next.0,
-      inr (record { action = but.action; parted = ap (λ zs. xs ++ zs) but.parted ∙ sym (append_assoc xs next.0 (Took but.action ∷ [])) }),
+      inr (record { last = but.last; parted = ap (λ zs. xs ++ zs) but.parted ∙ sym (append_assoc xs next.0 (but.last ∷ [])) }),
       done_more a b c xs ys first next.0 next.2,
       next.3,
       ahead_more a b c xs ys first next.3 next.4,
@@ -61,9 +56,9 @@ then_gave start old new before (Ok event) did first = list_did_more start old ne
 then_gave start old new before (Err fault) did first =
     subst (λ (interactions : List Interaction). ListDid start new interactions (NextFailed fault)) (append-nil before) (list_did_more start old new before [] (NextFailed fault) first did)
 
--- a call that took an action
-pub then_took : (start old new : ListBoardState) (before : List Interaction) (action : Action) (result : Result (Unit {0}) BoardFault)
-    → MatchResult result (λ _. ListDid old new (Took action ∷ []) Going) (λ fault. ListDid old new (Took action ∷ []) (ActFailed fault)) → ListDid start old before Going
-    → MatchResult result (λ _. ListDid start new (before ++ Took action ∷ []) Going) (λ fault. ListDid start new (before ++ Took action ∷ []) (ActFailed fault))
-then_took start old new before action (Ok unit) did first = list_did_more start old new before (Took action ∷ []) Going first did
-then_took start old new before action (Err fault) did first = list_did_more start old new before (Took action ∷ []) (ActFailed fault) first did
+-- a call that was handed something
+pub then_took : (start old new : ListBoardState) (before : List Interaction) (handed : Interaction) (result : Result (Unit {0}) BoardFault)
+    → MatchResult result (λ _. ListDid old new (handed ∷ []) Going) (λ fault. ListDid old new (handed ∷ []) (ActFailed fault)) → ListDid start old before Going
+    → MatchResult result (λ _. ListDid start new (before ++ handed ∷ []) Going) (λ fault. ListDid start new (before ++ handed ∷ []) (ActFailed fault))
+then_took start old new before handed (Ok unit) did first = list_did_more start old new before (handed ∷ []) Going first did
+then_took start old new before handed (Err fault) did first = list_did_more start old new before (handed ∷ []) (ActFailed fault) first did

@@ -1,14 +1,13 @@
 -- What boards do.
 use Rattle.std.specs.Prelude.{◌≡◌, ℕ, ◌⊎◌, List, [], ◌∷◌, ◌++◌, ⊤}
-use Rattle.rws_board.specs.declared.action.Action.{Action}
 use Rattle.rws_board.specs.declared.board_fault.BoardFault.{BoardFault}
 use Rattle.rws_board.specs.declared.event.Event.{Event}
 use Rattle.rws_board.specs.declared.event.Event.TheVariants.{End}
 use Rattle.rws_board.specs.declared.interaction.Interaction.{Interaction}
-use Rattle.rws_board.specs.declared.interaction.Interaction.TheVariants.{Gave, Took}
+use Rattle.rws_board.specs.declared.interaction.Interaction.TheVariants.{Gave, Took, Told}
 
--- how a board stands: it may be called, it gave the end, or its last call failed, which asked for an event or was to take
--- an action
+-- how a board stands: it may be called, it gave the end, or its last call failed, which asked for an event, or was to take
+-- an action or to hear of a step of the pool
 pub data Standing : Type 0 where
   Going : Standing
   Ended : Standing
@@ -29,17 +28,18 @@ abbrev pub events_given : List Interaction → List Event
 events_given [] = []
 events_given (Gave event ∷ interactions) = event ∷ events_given interactions
 events_given (Took action ∷ interactions) = events_given interactions
+events_given (Told call ∷ interactions) = events_given interactions
 
--- the actions that were taken
-abbrev pub actions_taken : List Interaction → List Action
-actions_taken [] = []
-actions_taken (Gave event ∷ interactions) = actions_taken interactions
-actions_taken (Took action ∷ interactions) = action ∷ actions_taken interactions
+-- it isn't an event: an action that is to be taken, or a step of the pool that is told
+abbrev pub IsHanded : Interaction → Type 0
+IsHanded (Gave event) = ⊥
+IsHanded (Took action) = ⊤
+IsHanded (Told call) = ⊤
 
--- all of it was done, but for the last action
+-- all of it was done, but for the last
 pub record IsAllButLast (done interactions : List Interaction) : Type 0 where
-  pub action : Action
-  pub parted : interactions ≡ done ++ Took action ∷ []
+  pub last : Interaction
+  pub parted : interactions ≡ done ++ last ∷ []
 
 -- A board in memory: the events ahead, all that it did, and which calls are to fail, how many were made and how many
 -- of them failed.

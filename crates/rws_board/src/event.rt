@@ -1,5 +1,6 @@
 //! What a worker is told.
 
+use rws_pool::Round;
 use rws_wire::Text;
 
 /// What happened outside a worker.
@@ -19,6 +20,10 @@ pub enum Event {
     LinkBytes { link: u64, bytes: Text },
     /// The server closed its connection.
     LinkGone { link: u64 },
+    /// The clock shows this, in milliseconds. It never goes back.
+    Clock { now_ms: u64 },
+    /// The monitor ended a round, in which it found this.
+    Observed { round: Round },
     /// Nothing more comes.
     End,
 }

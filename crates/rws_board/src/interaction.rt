@@ -1,6 +1,7 @@
 //! What a board did.
 
 use crate::{Action, Event};
+use rws_pool::PoolCall;
 
 /// One thing that a board did.
 #[derive(Debug, Drop, PartialEq, Eq)]
@@ -9,4 +10,6 @@ pub enum Interaction {
     Gave(Event),
     /// It took this action.
     Took(Action),
+    /// It was told of this step of the pool.
+    Told(PoolCall),
 }

@@ -4,10 +4,11 @@ ghost use Rattle.rws_board.specs.Boards.{ListBoardState, ListDid, given, standin
 ghost use Rattle.rws_board.specs.Boards.Standing.{Going, NextFailed, ActFailed};
 ghost use Rattle.rws_board.specs.Faults.{Rises, one_more};
 ghost use Rattle.rws_board.specs.declared.interaction.Interaction.{Interaction};
-ghost use Rattle.rws_board.specs.declared.interaction.Interaction.TheVariants.{Gave, Took};
+ghost use Rattle.rws_board.specs.declared.interaction.Interaction.TheVariants.{Gave, Told, Took};
 
 use crate::planned_faults::PlannedFaults;
 use crate::{Action, Board, BoardFault, CallList, Event, EventList, Interaction};
+use rws_pool::PoolCall;
 use std::alloc::{AllocError, Global};
 use std::collections::VecDeque;
 use std::marker::Model;
@@ -85,6 +86,23 @@ impl ListBoard {
         remember(&mut self.done, Interaction::Took(action))?;
         Ok(())
     }
+
+    // Remembers a step of the pool, unless there is no memory for it.
+    fn hear(&mut self, call: PoolCall) -> Result<(), BoardFault>
+        ensures did { MatchResult result
+            (λ _. ListDid self.old self.new (Told call ∷ []) Going)
+            (λ fault. ListDid self.old self.new (Told call ∷ []) (ActFailed fault)) }
+        ensures counts { self.old.faults ≤ self.new.faults }
+        ensures failed { IsErrOf result BoardFault.Failed → Rises self.old.faults self.new.faults }
+        ensures planned { IsErrOf result BoardFault.Failed ↔ Contains self.old.fails self.old.calls }
+        ensures calls { self.new.calls ≡ one_more self.old.calls }
+        ensures fails { self.new.fails ≡ self.old.fails }
+        ensures ok { OnOk result (self.new.faults ≡ self.old.faults) }
+    {
+        self.plan.call()?;
+        remember(&mut self.done, Interaction::Told(call))?;
+        Ok(())
+    }
 }
 
 impl Board for ListBoard {
@@ -119,6 +137,20 @@ impl Board for ListBoard {
         ensures ok { OnOk result (self.new.faults ≡ self.old.faults) }
     {
         self.take(action)
+    }
+
+    fn tell(&mut self, call: &PoolCall) -> Result<(), BoardFault>
+        ensures did { (start : ListBoardState) (before : List Interaction) → ListDid start self.old before Going → MatchResult result
+            (λ _. ListDid start self.new (before ++ Told call.now ∷ []) Going)
+            (λ fault. ListDid start self.new (before ++ Told call.now ∷ []) (ActFailed fault)) }
+        ensures counts { self.old.faults ≤ self.new.faults }
+        ensures failed { IsErrOf result BoardFault.Failed → Rises self.old.faults self.new.faults }
+        ensures planned { IsErrOf result BoardFault.Failed ↔ Contains self.old.fails self.old.calls }
+        ensures calls { self.new.calls ≡ one_more self.old.calls }
+        ensures fails { self.new.fails ≡ self.old.fails }
+        ensures ok { OnOk result (self.new.faults ≡ self.old.faults) }
+    {
+        self.hear(*call)
     }
 
     ghost use Rattle.std.specs.Prelude.{refl};

@@ -1,6 +1,7 @@
 use Rattle.std.proofs.Common.{rules}
 use Rattle.rws_board.specs.Boards.{ListBoardState}
 use Rattle.rws_board.specs.declared.board_fault.BoardFault.TheVariants.{Failed, OutOfMemory}
+use Rattle.rws_board.specs.declared.interaction.Interaction.TheVariants.{Took}
 use Rattle.rws_board.proofs.ListBoardLemmas.{at_err, planned_failure, not_taken}
 use Rattle.rws_board.proofs.list_board.ListBoard.take.Goals as goal
 
@@ -16,4 +17,4 @@ returns-in_err-remember-clause-did c =
     let new : ListBoardState = record { ahead = board.ahead.items; done = c.remember.new.done.items; fails = plan.fails; calls = plan.calls; faults = plan.faults } in
     rw (← c.self.view_is)
     (at_err c.from_residual-in_err-remember.result _ _ OutOfMemory c.from_residual-in_err-remember.ensures.1
-    (not_taken old new c.args.action OutOfMemory c.in_err-remember.ensures.err))
+    (not_taken old new (Took c.args.action) OutOfMemory tt c.in_err-remember.ensures.err))
