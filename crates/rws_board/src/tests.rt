@@ -1,5 +1,6 @@
 //! What no contract says: that calls succeed with ample memory.
 use super::*;
+use rws_pool::PoolCall;
 use rws_wire::{DropCause, Text};
 use std::test::Fail;
 
@@ -28,12 +29,13 @@ fn a_board_in_memory_remembers_what_it_did(rt: HostRuntime) -> Result<(), Fail> 
     let alloc = rt.alloc();
     let mut events = EventList::new(alloc);
     events.push(Event::LinkGone { link: 1 })?;
-    let mut board = ListBoard::new(alloc, events, CallList::from_slice(alloc, &[2])?)?;
+    let mut board = ListBoard::new(alloc, events, CallList::from_slice(alloc, &[3])?)?;
     assert_eq!(rt; board.next(0), Ok(Event::LinkGone { link: 1 }));
     let cause = DropCause::End;
     assert_eq!(rt; board.act(Action::Drop { link: 1, cause }), Ok(()));
+    assert_eq!(rt; board.tell(&PoolCall::Route { session: 1 }), Ok(()));
     assert_eq!(rt; board.next(0), Err(BoardFault::Failed));
-    assert_eq!(rt; board.interactions().len(), 2);
+    assert_eq!(rt; board.interactions().len(), 3);
     Ok(())
 }
 

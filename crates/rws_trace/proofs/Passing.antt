@@ -2,14 +2,15 @@
 use Rattle.std.proofs.Common.{◌≡◌, ◌≢◌, ℕ, ◌+◌, ◌≤◌, Bool, true, false, cond, List, [], ◌∷◌, length, Option, Some, None, option_map, refl, sym, ◌∙◌, ap, codes, bytes_eq, arith}
 use Rattle.std.specs.Bool.{⊤}
 use Rattle.std.proofs.lemmas.Bool.Decides.{nat_tests}
-use Rattle.rws_trace.specs.EventLine.{meaning_of, said_or_bad, event_of, event_of_two, event_of_three, words_of, with_both, session_of, link_of, server_of, bytes_of, scramble_of, begin_of}
+use Rattle.rws_trace.specs.EventLine.{meaning_of, said_or_bad, event_of, event_of_two, event_of_three, event_of_few, words_of, with_both, session_of, link_of, server_from, bytes_of, scramble_of, begin_of, number_of, round_of}
 use Rattle.rws_trace.specs.Reader.{IsNext, script_at, count_of}
-use Rattle.rws_trace.specs.Script.{Script, told_before, in_order, meaning_at, begun_after}
+use Rattle.rws_trace.specs.Script.{Script, told_before, in_order, may_come, meaning_at, order_after}
 use Rattle.rws_board.specs.declared.event.Event.{Event}
-use Rattle.rws_board.specs.declared.event.Event.TheVariants.{Accept, Begin, ClientBytes, ClientGone, LinkReady, LinkBytes, LinkGone, End}
+use Rattle.rws_board.specs.declared.event.Event.TheVariants.{Accept, Begin, ClientBytes, ClientGone, LinkReady, LinkBytes, LinkGone, Clock, Observed, End}
 use Rattle.rws_trace.specs.declared.event_line.EventLine.{EventLine}
 use Rattle.rws_trace.specs.declared.event_line.EventLine.TheVariants.{Silent, Says, Bad}
 use Rattle.rws_trace.specs.declared.event_line.TheConstants.{MAX_LINE, LAST_LINE}
+use Rattle.rws_trace.specs.declared.order.Order.{Order}
 use Rattle.rws_trace.specs.declared.place.Place.{Place}
 use Rattle.rws_trace.specs.declared.settings.TraceSettings.{TraceSettings}
 
@@ -36,11 +37,12 @@ NotEnd-two : (keyword number : List ℕ) → NotEnd (event_of_two keyword number
 NotEnd-two keyword number =
     NotEnd-cond (bytes_eq keyword (codes "gone")) _ _ (NotEnd-map ClientGone (λ a e. cc) (session_of number))
     (NotEnd-cond (bytes_eq keyword (codes "ready")) _ _ (NotEnd-map LinkReady (λ a e. cc) (link_of number))
-    (NotEnd-cond (bytes_eq keyword (codes "lost")) _ _ (NotEnd-map LinkGone (λ a e. cc) (link_of number)) tt))
+    (NotEnd-cond (bytes_eq keyword (codes "lost")) _ _ (NotEnd-map LinkGone (λ a e. cc) (link_of number))
+    (NotEnd-cond (bytes_eq keyword (codes "clock")) _ _ (NotEnd-map Clock (λ a e. cc) (number_of number)) tt)))
 
 NotEnd-begin : (settings : TraceSettings) (number word : List ℕ) → NotEnd (begin_of settings number word)
 NotEnd-begin settings number word =
-    NotEnd-cond settings.plain _ None (NotEnd-both Begin (λ a b e. cc) (session_of number) (server_of settings.servers word)) tt
+    NotEnd-cond settings.plain _ None (NotEnd-both Begin (λ a b e. cc) (session_of number) (server_from 0 settings.servers word)) tt
 
 NotEnd-three : (settings : TraceSettings) (keyword number word : List ℕ) → NotEnd (event_of_three settings keyword number word)
 NotEnd-three settings keyword number word =
@@ -49,12 +51,18 @@ NotEnd-three settings keyword number word =
     (NotEnd-cond (bytes_eq keyword (codes "client")) _ _ (NotEnd-both ClientBytes (λ a b e. cc) (session_of number) (bytes_of word))
     (NotEnd-cond (bytes_eq keyword (codes "link")) _ _ (NotEnd-both LinkBytes (λ a b e. cc) (link_of number) (bytes_of word)) tt)))
 
+NotEnd-few : (settings : TraceSettings) (keyword : List ℕ) (words : List (List ℕ)) → NotEnd (event_of_few settings keyword words)
+NotEnd-few settings keyword [] = tt
+NotEnd-few settings keyword (a ∷ []) = NotEnd-two keyword a
+NotEnd-few settings keyword (a ∷ b ∷ []) = NotEnd-three settings keyword a b
+NotEnd-few settings keyword (a ∷ b ∷ c ∷ words) = tt
+
 NotEnd-event : (settings : TraceSettings) (words : List (List ℕ)) → NotEnd (event_of settings words)
 NotEnd-event settings [] = tt
-NotEnd-event settings (a ∷ []) = tt
-NotEnd-event settings (a ∷ b ∷ []) = NotEnd-two a b
-NotEnd-event settings (a ∷ b ∷ c ∷ []) = NotEnd-three settings a b c
-NotEnd-event settings (a ∷ b ∷ c ∷ d ∷ words) = tt
+NotEnd-event settings (keyword ∷ []) = tt
+NotEnd-event settings (keyword ∷ word ∷ words) =
+    NotEnd-cond (bytes_eq keyword (codes "observe")) _ _ (NotEnd-map Observed (λ a e. cc) (round_of settings.servers (word ∷ words)))
+    (NotEnd-few settings keyword (word ∷ words))
 
 said-not_end : (o : Option Event) → NotEnd o → said_or_bad o ≢ Says End
 said-not_end None not is = cc
@@ -69,23 +77,14 @@ meaning-not_end settings [] = λ is. cc
 meaning-not_end settings (byte ∷ line) =
     cond-not_end _ Silent (said_or_bad (event_of settings (words_of (byte ∷ line)))) (λ e. cc) (said-not_end _ (NotEnd-event settings (words_of (byte ∷ line))))
 
-in_order-not_end : (begun : ℕ) (meaning : EventLine) → meaning ≢ Says End → in_order begun meaning ≢ Says End
-in_order-not_end begun Silent not = not
-in_order-not_end begun Bad not = not
-in_order-not_end begun (Says (Accept session scramble)) not =
-    cond-not_end _ (Says (Accept session scramble)) Bad not (λ e. cc)
-in_order-not_end begun (Says (Begin session server)) not =
-    cond-not_end _ (Says (Begin session server)) Bad not (λ e. cc)
-in_order-not_end begun (Says (ClientBytes session bytes)) not = not
-in_order-not_end begun (Says (ClientGone session)) not = not
-in_order-not_end begun (Says (LinkReady link)) not = not
-in_order-not_end begun (Says (LinkBytes link bytes)) not = not
-in_order-not_end begun (Says (LinkGone link)) not = not
-in_order-not_end begun (Says End) not = not
+in_order-not_end : (order : Order) (meaning : EventLine) → meaning ≢ Says End → in_order order meaning ≢ Says End
+in_order-not_end order Silent not = not
+in_order-not_end order Bad not = not
+in_order-not_end order (Says event) not = cond-not_end (may_come order event) (Says event) Bad not (λ e. cc)
 
-pub event-not_end : (settings : TraceSettings) (begun : ℕ) (line : List ℕ) (event : Event) → Says event ≡ in_order begun (meaning_of settings line) → event ≢ End
-event-not_end settings begun line event says end =
-    in_order-not_end begun (meaning_of settings line) (meaning-not_end settings line) (sym says ∙ ap Says end)
+pub event-not_end : (settings : TraceSettings) (order : Order) (line : List ℕ) (event : Event) → Says event ≡ in_order order (meaning_of settings line) → event ≢ End
+event-not_end settings order line event says end =
+    in_order-not_end order (meaning_of settings line) (meaning-not_end settings line) (sym says ∙ ap Says end)
 
 -- an event that isn't the end comes next where the script says it
 pub next-event : (event : Event) (bad : Option ℕ) (before behind : Script) → event ≢ End → before ≡ told_before event behind → bad ≡ None → IsNext event bad before behind
@@ -96,6 +95,8 @@ next-event (ClientGone session) bad before behind not told none = (told, none)
 next-event (LinkReady link) bad before behind not told none = (told, none)
 next-event (LinkBytes link bytes) bad before behind not told none = (told, none)
 next-event (LinkGone link) bad before behind not told none = (told, none)
+next-event (Clock now) bad before behind not told none = (told, none)
+next-event (Observed round) bad before behind not told none = (told, none)
 next-event End bad before behind not told none = absurd (not refl)
 
 pub count-event : (event : Event) → event ≢ End → count_of event ≡ 1
@@ -106,11 +107,13 @@ count-event (ClientGone session) not = refl
 count-event (LinkReady link) not = refl
 count-event (LinkBytes link bytes) not = refl
 count-event (LinkGone link) not = refl
+count-event (Clock now) not = refl
+count-event (Observed round) not = refl
 count-event End not = absurd (not refl)
 
-pub meaning_at-in_order : (settings : TraceSettings) (number begun : ℕ) (line : List ℕ) → length line ≤ MAX_LINE → number ≢ LAST_LINE → meaning_at settings number begun line ≡ in_order begun (meaning_of settings line)
-meaning_at-in_order settings number begun line short not_last = grind (arith, nat_tests)
+pub meaning_at-in_order : (settings : TraceSettings) (number : ℕ) (order : Order) (line : List ℕ) → length line ≤ MAX_LINE → number ≢ LAST_LINE → meaning_at settings number order line ≡ in_order order (meaning_of settings line)
+meaning_at-in_order settings number order line short not_last = grind (arith, nat_tests)
 
 -- the script where its first line says an event, and the place behind it
-pub script_at-says : (place next : Place) (line : List ℕ) (lines : List (List ℕ)) (event : Event) → place.bad_line ≡ None → meaning_at place.settings place.number place.begun line ≡ Says event → next.bad_line ≡ None → next.number ≡ place.number + 1 → next.begun ≡ begun_after place.begun (Says event) → next.settings ≡ place.settings → script_at place (line ∷ lines) ≡ told_before event (script_at next lines)
-script_at-says place next line lines event going says still number begun same = rw (going, says, still, number, begun, same)
+pub script_at-says : (place next : Place) (line : List ℕ) (lines : List (List ℕ)) (event : Event) → place.bad_line ≡ None → meaning_at place.settings place.number place.order line ≡ Says event → next.bad_line ≡ None → next.number ≡ place.number + 1 → next.order ≡ order_after place.order event → next.settings ≡ place.settings → script_at place (line ∷ lines) ≡ told_before event (script_at next lines)
+script_at-says place next line lines event going says still number order same = rw (going, says, still, number, order, same)

@@ -1,7 +1,7 @@
 -- How reading goes on from call to call.
 use Rattle.std.proofs.Common.{◌≡◌, ℕ, ◌++◌, List, [], ◌∷◌, Option, Some, None, Result, Ok, Err, IfOk, inl, inr, refl, sym, ◌∙◌, ap, subst, append_assoc}
 use Rattle.rws_board.specs.declared.event.Event.{Event}
-use Rattle.rws_board.specs.declared.event.Event.TheVariants.{Accept, Begin, ClientBytes, ClientGone, LinkReady, LinkBytes, LinkGone, End}
+use Rattle.rws_board.specs.declared.event.Event.TheVariants.{Accept, Begin, ClientBytes, ClientGone, LinkReady, LinkBytes, LinkGone, Clock, Observed, End}
 use Rattle.rws_trace.specs.Lines.{lines_of, Begins, IsFeedless}
 use Rattle.rws_trace.specs.Lines.Begins.{fed, last}
 use Rattle.rws_trace.specs.Reader.{Ahead, IsFound, IsNext, IsNextIf, Reads, ReadsOut, ReadsPart, Tells, TellsIf, script_at}
@@ -88,6 +88,8 @@ tells-line (Some (ClientGone session)) old new line before rest first says = (re
 tells-line (Some (LinkReady link)) old new line before rest first says = (reads-line old new (LinkReady link ∷ []) line before rest first (λ lines. (says lines).0), (says []).1)
 tells-line (Some (LinkBytes link bytes)) old new line before rest first says = (reads-line old new (LinkBytes link bytes ∷ []) line before rest first (λ lines. (says lines).0), (says []).1)
 tells-line (Some (LinkGone link)) old new line before rest first says = (reads-line old new (LinkGone link ∷ []) line before rest first (λ lines. (says lines).0), (says []).1)
+tells-line (Some (Clock now)) old new line before rest first says = (reads-line old new (Clock now ∷ []) line before rest first (λ lines. (says lines).0), (says []).1)
+tells-line (Some (Observed round)) old new line before rest first says = (reads-line old new (Observed round ∷ []) line before rest first (λ lines. (says lines).0), (says []).1)
 
 -- lines that say nothing, and then an event or the end
 tells-then : (event : Event) (a b c : Place) (before middle rest : List ℕ) → Reads a b [] before middle → Tells event b c middle rest → Tells event a c before rest
@@ -99,6 +101,8 @@ tells-then (ClientGone session) a b c before middle rest reads tells = (reads-th
 tells-then (LinkReady link) a b c before middle rest reads tells = (reads-then a b c [] (LinkReady link ∷ []) before middle rest reads tells.0, tells.1)
 tells-then (LinkBytes link bytes) a b c before middle rest reads tells = (reads-then a b c [] (LinkBytes link bytes ∷ []) before middle rest reads tells.0, tells.1)
 tells-then (LinkGone link) a b c before middle rest reads tells = (reads-then a b c [] (LinkGone link ∷ []) before middle rest reads tells.0, tells.1)
+tells-then (Clock now) a b c before middle rest reads tells = (reads-then a b c [] (Clock now ∷ []) before middle rest reads tells.0, tells.1)
+tells-then (Observed round) a b c before middle rest reads tells = (reads-then a b c [] (Observed round ∷ []) before middle rest reads tells.0, tells.1)
 
 -- the front of a line
 abbrev HasPart : List ℕ → List ℕ → Type 0
@@ -150,6 +154,8 @@ tells-next (ClientGone session) old new before rest tells = (reads-script old ne
 tells-next (LinkReady link) old new before rest tells = (reads-script old new (LinkReady link ∷ []) before rest tells.0, tells.1)
 tells-next (LinkBytes link bytes) old new before rest tells = (reads-script old new (LinkBytes link bytes ∷ []) before rest tells.0, tells.1)
 tells-next (LinkGone link) old new before rest tells = (reads-script old new (LinkGone link ∷ []) before rest tells.0, tells.1)
+tells-next (Clock now) old new before rest tells = (reads-script old new (Clock now ∷ []) before rest tells.0, tells.1)
+tells-next (Observed round) old new before rest tells = (reads-script old new (Observed round ∷ []) before rest tells.0, tells.1)
 
 -- a reading, and then the end
 pub reads_out-then : (a b c : Place) (xs ys : List Event) (before middle rest : List ℕ) → Reads a b xs before middle → ReadsOut b c ys middle rest → ReadsOut a c (xs ++ ys) before rest

@@ -3,16 +3,14 @@ use Rattle.std.specs.Prelude.{◌≡◌, ℕ, List, [], ◌∷◌, ◌++◌, len
 use Rattle.std.specs.Io.KnownBytes.{Appends}
 use Rattle.std.proofs.Common.{sym, ◌∙◌, ap, subst, arith, append-nil, length-append}
 use Rattle.std.proofs.KnownBytes.{Appends-trans}
-use Rattle.rws_board.specs.Boards.{Standing, events_given, actions_taken, given, standing_after}
+use Rattle.rws_board.specs.Boards.{Standing, events_given, given, standing_after}
 use Rattle.rws_board.specs.Boards.Standing.{Going, Ended, NextFailed, ActFailed}
-use Rattle.rws_board.proofs.JoinLemmas.{events_given-append, actions_taken-append}
+use Rattle.rws_board.proofs.JoinLemmas.{events_given-append}
 use Rattle.rws_board.specs.Put.{AppendsFront}
-use Rattle.rws_board.specs.declared.action.Action.{Action}
 use Rattle.rws_board.specs.declared.board_fault.BoardFault.{BoardFault}
 use Rattle.rws_board.specs.declared.board_fault.BoardFault.TheVariants as faults
 use Rattle.rws_board.specs.declared.event.Event.{Event}
 use Rattle.rws_board.specs.declared.interaction.Interaction.{Interaction}
-use Rattle.rws_board.specs.declared.interaction.Interaction.TheVariants.{Took}
 use Rattle.rws_trace.specs.Printing.{text_of}
 use Rattle.rws_trace.specs.Reader.{Ahead, Reads, ReadsPart, ReadsOut}
 use Rattle.rws_trace.specs.Script.{all_before}
@@ -28,8 +26,8 @@ module _ (a b c : ScriptBoardState) (xs ys : List Interaction) where
   events_more : events_given (xs ++ ys) ≡ events_given xs ++ events_given ys
   events_more = events_given-append xs ys
 
-  texts_more : text_of (actions_taken (xs ++ ys)) ≡ text_of (actions_taken xs) ++ text_of (actions_taken ys)
-  texts_more = ap text_of (actions_taken-append xs ys) ∙ text_of-append (actions_taken xs) (actions_taken ys)
+  texts_more : text_of (xs ++ ys) ≡ text_of xs ++ text_of ys
+  texts_more = text_of-append xs ys
 
   counts_more : Counts a b xs → Counts b c ys → Counts a c (xs ++ ys)
   counts_more first next = record {
@@ -38,15 +36,15 @@ module _ (a b c : ScriptBoardState) (xs ys : List Interaction) where
     events = let one = first.events in let two = next.events in let lengths = ap length events_more ∙ length-append (events_given xs) (events_given ys) in omega arith;
   }
 
-  printed_more : Appends a.taken b.taken (text_of (actions_taken xs)) → Appends b.taken c.taken (text_of (actions_taken ys)) → Appends a.taken c.taken (text_of (actions_taken (xs ++ ys)))
+  printed_more : Appends a.taken b.taken (text_of xs) → Appends b.taken c.taken (text_of ys) → Appends a.taken c.taken (text_of (xs ++ ys))
   printed_more first next =
       subst (λ (bytes : List ℕ). Appends a.taken c.taken bytes) (sym texts_more)
-      (Appends-trans a.taken b.taken c.taken (text_of (actions_taken xs)) (text_of (actions_taken ys)) first next)
+      (Appends-trans a.taken b.taken c.taken (text_of xs) (text_of ys) first next)
 
-  front_more : Appends a.taken b.taken (text_of (actions_taken xs)) → AppendsFront b.taken c.taken (text_of (actions_taken ys)) → AppendsFront a.taken c.taken (text_of (actions_taken (xs ++ ys)))
+  front_more : Appends a.taken b.taken (text_of xs) → AppendsFront b.taken c.taken (text_of ys) → AppendsFront a.taken c.taken (text_of (xs ++ ys))
   front_more first next =
       subst (λ (bytes : List ℕ). AppendsFront a.taken c.taken bytes) (sym texts_more)
-      (front-behind a.taken b.taken c.taken (text_of (actions_taken xs)) (text_of (actions_taken ys)) first next)
+      (front-behind a.taken b.taken c.taken (text_of xs) (text_of ys) first next)
 
   reads_more : (P Q : List Event → List ℕ → List ℕ → Type 0) → ((x y z : List ℕ) → Reads a.reader.place b.reader.place (events_given xs) x y → P (events_given ys) y z → Q (events_given xs ++ events_given ys) x z)
       → AheadOf a b (Reads a.reader.place b.reader.place (events_given xs)) → AheadOf b c (P (events_given ys)) → AheadOf a c (Q (events_given (xs ++ ys)))
@@ -130,10 +128,10 @@ module _ {I O : Type 0} (left : I → Option (List ℕ)) (input_faults : I → �
   then_gave before (Err fault) did first =
       subst (λ (interactions : List Interaction). Did left input_faults taken output_faults start new interactions (NextFailed fault)) (append-nil before) (did_more before [] (NextFailed fault) first did)
 
-  -- a call that took an action
-  pub then_took : (before : List Interaction) (action : Action) (result : Result (Unit {0}) BoardFault)
-      → MatchResult result (λ _. Did left input_faults taken output_faults old new (Took action ∷ []) Going) (λ fault. Did left input_faults taken output_faults old new (Took action ∷ []) (ActFailed fault))
+  -- a call that was handed something
+  pub then_took : (before : List Interaction) (handed : Interaction) (result : Result (Unit {0}) BoardFault)
+      → MatchResult result (λ _. Did left input_faults taken output_faults old new (handed ∷ []) Going) (λ fault. Did left input_faults taken output_faults old new (handed ∷ []) (ActFailed fault))
       → Did left input_faults taken output_faults start old before Going
-      → MatchResult result (λ _. Did left input_faults taken output_faults start new (before ++ Took action ∷ []) Going) (λ fault. Did left input_faults taken output_faults start new (before ++ Took action ∷ []) (ActFailed fault))
-  then_took before action (Ok unit) did first = did_more before (Took action ∷ []) Going first did
-  then_took before action (Err fault) did first = did_more before (Took action ∷ []) (ActFailed fault) first did
+      → MatchResult result (λ _. Did left input_faults taken output_faults start new (before ++ handed ∷ []) Going) (λ fault. Did left input_faults taken output_faults start new (before ++ handed ∷ []) (ActFailed fault))
+  then_took before handed (Ok unit) did first = did_more before (handed ∷ []) Going first did
+  then_took before handed (Err fault) did first = did_more before (handed ∷ []) (ActFailed fault) first did

@@ -1,21 +1,21 @@
 -- What a board over a trace did in one call.
-use Rattle.std.proofs.Common.{◌≡◌, ℕ, ◌+◌, ◌≤◌, List, [], ◌∷◌, ◌++◌, Option, Some, None, refl, sym, ◌∙◌, ap, subst, append-nil, arith}
+use Rattle.std.proofs.Common.{◌≡◌, ℕ, ◌+◌, ◌≤◌, List, [], ◌∷◌, ◌++◌, length, Option, Some, None, refl, sym, ◌∙◌, ap, subst, append-nil, arith}
 use Rattle.std.proofs.KnownBytes.{Appends-nil}
 use Rattle.std.specs.Io.KnownBytes.{Appends, IsAtEnd}
-use Rattle.rws_board.specs.Boards.{given, standing_after}
+use Rattle.rws_board.specs.Boards.{IsHanded, events_given, given, standing_after}
 use Rattle.rws_board.specs.Boards.Standing.{Going, NextFailed, ActFailed}
 use Rattle.rws_board.specs.Faults.{Rises}
 use Rattle.rws_board.specs.Put.{AppendsFront}
-use Rattle.rws_board.specs.declared.action.Action.{Action}
 use Rattle.rws_board.specs.declared.board_fault.BoardFault.TheVariants as faults
 use Rattle.rws_board.specs.declared.event.Event.{Event}
-use Rattle.rws_board.specs.declared.event.Event.TheVariants.{Accept, Begin, ClientBytes, ClientGone, LinkReady, LinkBytes, LinkGone, End}
-use Rattle.rws_board.specs.declared.interaction.Interaction.TheVariants.{Gave, Took}
+use Rattle.rws_board.specs.declared.event.Event.TheVariants.{Accept, Begin, ClientBytes, ClientGone, LinkReady, LinkBytes, LinkGone, Clock, Observed, End}
+use Rattle.rws_board.specs.declared.interaction.Interaction.{Interaction}
+use Rattle.rws_board.specs.declared.interaction.Interaction.TheVariants.{Gave, Took, Told}
 use Rattle.rws_trace.specs.Counting.{PassesOver}
 use Rattle.rws_trace.specs.Lines.{lines_of}
-use Rattle.rws_trace.specs.Printing.{action_text, text_of}
+use Rattle.rws_trace.specs.Printing.{text_of, text_of_one}
 use Rattle.rws_trace.specs.Reader.{Ahead, ReaderState, Reads, ReadsPart, Tells, TellsNext, count_of, script_at}
-use Rattle.rws_trace.specs.ScriptBoards.{ScriptBoardState, FirstEvents, ScriptDid}
+use Rattle.rws_trace.specs.ScriptBoards.{ScriptBoardState, Counts, FirstEvents, IsCutShort, ScriptDid}
 use Rattle.rws_trace.specs.declared.place.Place.{Place}
 use Rattle.rws_trace.specs.declared.side.Side.{Side}
 use Rattle.rws_trace.specs.declared.side.Side.TheVariants.{Input, Output}
@@ -62,6 +62,8 @@ module _ (reader reader' : ReaderState) (left left' taken : Option (List ℕ)) (
   gave (LinkReady link) side tells counted end = one_event (LinkReady link) side (λ x y t. t.0) tells counted
   gave (LinkBytes link bytes) side tells counted end = one_event (LinkBytes link bytes) side (λ x y t. t.0) tells counted
   gave (LinkGone link) side tells counted end = one_event (LinkGone link) side (λ x y t. t.0) tells counted
+  gave (Clock now) side tells counted end = one_event (Clock now) side (λ x y t. t.0) tells counted
+  gave (Observed round) side tells counted end = one_event (Observed round) side (λ x y t. t.0) tells counted
 
   no_more : PassesOver reader.place reader'.place → reader'.place.events ≡ reader.place.events + 0
   no_more over = ap (λ (place : Place). place.events) over.same ∙ omega arith
@@ -79,37 +81,52 @@ module _ (reader reader' : ReaderState) (left left' taken : Option (List ℕ)) (
     stands = record { read = no_events reader left; printed = (0, Appends-nil taken) };
   }
 
--- a put of the line of an action
-module _ (reader : ReaderState) (left taken taken' : Option (List ℕ)) (input output output' : ℕ) (action : Action) (rises : output ≤ output') where
+given-none : (handed : Interaction) → IsHanded handed → events_given (handed ∷ []) ≡ []
+given-none (Gave event) is = absurd is
+given-none (Took action) is = refl
+given-none (Told call) is = refl
+
+-- a put of the line of what the board was handed
+module _ (reader : ReaderState) (left taken taken' : Option (List ℕ)) (input output output' : ℕ) (handed : Interaction) (is : IsHanded handed) (bytes : List ℕ) (line : text_of_one handed ≡ bytes) (rises : output ≤ output') where
   abbrev unput : Option Side → ScriptBoardState
   unput side = record { reader = reader; left = left; taken = taken; input_faults = input; output_faults = output; failed = side }
 
   abbrev put : Option Side → ScriptBoardState
   put side = record { reader = reader; left = left; taken = taken'; input_faults = input; output_faults = output'; failed = side }
 
-  one_line : text_of (action ∷ []) ≡ action_text action
-  one_line = append-nil (action_text action)
+  one_line : text_of (handed ∷ []) ≡ bytes
+  one_line = append-nil (text_of_one handed) ∙ line
 
-  pub took : (side : Option Side) → Appends taken taken' (action_text action) → ScriptDid (unput side) (put side) (Took action ∷ []) Going
+  no_event : events_given (handed ∷ []) ≡ []
+  no_event = given-none handed is
+
+  none_read : FirstEvents reader left (events_given (handed ∷ []))
+  none_read = subst (λ (events : List Event). FirstEvents reader left events) (sym no_event) (no_events reader left)
+
+  none_counted : (side : Option Side) → Counts (unput side) (put side) (handed ∷ [])
+  none_counted side = record { input = omega arith; output = rises; events = (let none = ap length no_event in omega arith) }
+
+  pub took : (side : Option Side) → Appends taken taken' bytes → ScriptDid (unput side) (put side) (handed ∷ []) Going
   took side printed = record {
-    counts = record { input = omega arith; output = rises; events = omega arith };
+    counts = none_counted side;
     stands = record {
-      read = ahead-none reader.place reader.held left;
-      printed = subst (λ (bytes : List ℕ). Appends taken taken' bytes) (sym one_line) printed;
+      read = subst (λ (events : List Event). Ahead (Reads reader.place reader.place events) reader.held left reader.held left) (sym no_event)
+          (ahead-none reader.place reader.held left);
+      printed = subst (λ (text : List ℕ). Appends taken taken' text) (sym one_line) printed;
     };
   }
 
-  cut : (front : AppendsFront taken taken' (action_text action)) → AppendsFront taken taken' (text_of (action ∷ []))
-  cut front = subst (λ (bytes : List ℕ). AppendsFront taken taken' bytes) (sym one_line) front
+  cut : AppendsFront taken taken' bytes → IsCutShort (unput None) (put None) (handed ∷ [])
+  cut front = record { read = none_read; printed = subst (λ (text : List ℕ). AppendsFront taken taken' text) (sym one_line) front }
 
-  pub output_failed : (side : Option Side) → Rises output output' → AppendsFront taken taken' (action_text action) → ScriptDid (unput side) (put (Some Output)) (Took action ∷ []) (ActFailed faults.Failed)
+  pub output_failed : (side : Option Side) → Rises output output' → AppendsFront taken taken' bytes → ScriptDid (unput side) (put (Some Output)) (handed ∷ []) (ActFailed faults.Failed)
   output_failed side rose front = record {
-    counts = record { input = omega arith; output = rises; events = omega arith };
-    stands = (refl, rose, record { read = no_events reader left; printed = cut front });
+    counts = record { input = omega arith; output = rises; events = (let none = ap length no_event in omega arith) };
+    stands = (refl, rose, record { read = none_read; printed = (cut front).printed });
   }
 
-  pub no_memory_to_print : (side : Option Side) → AppendsFront taken taken' (action_text action) → ScriptDid (unput side) (put side) (Took action ∷ []) (ActFailed faults.OutOfMemory)
+  pub no_memory_to_print : (side : Option Side) → AppendsFront taken taken' bytes → ScriptDid (unput side) (put side) (handed ∷ []) (ActFailed faults.OutOfMemory)
   no_memory_to_print side front = record {
-    counts = record { input = omega arith; output = rises; events = omega arith };
-    stands = record { read = no_events reader left; printed = cut front };
+    counts = none_counted side;
+    stands = record { read = none_read; printed = (cut front).printed };
   }

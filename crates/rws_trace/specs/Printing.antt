@@ -1,8 +1,13 @@
 -- The lines that the program prints.
-use Rattle.std.specs.Prelude.{ℕ, List, ◌++◌, codes, decimal, flat_map}
+use Rattle.std.specs.Prelude.{ℕ, List, [], ◌++◌, codes, decimal, flat_map}
 use Rattle.hex.specs.Hex.{encode_lower}
 use Rattle.rws_board.specs.declared.action.Action.{Action}
 use Rattle.rws_board.specs.declared.action.Action.TheVariants.{Open, ToClient, ToLink, Drop, Close}
+use Rattle.rws_board.specs.declared.interaction.Interaction.{Interaction}
+use Rattle.rws_board.specs.declared.interaction.Interaction.TheVariants.{Gave, Took, Told}
+use Rattle.rws_gtid.specs.Spelling.{gtid_text}
+use Rattle.rws_pool.specs.declared.events.PoolCall.{PoolCall}
+use Rattle.rws_pool.specs.declared.events.PoolCall.TheVariants.{Route, Record, Observe}
 use Rattle.rws_wire.specs.declared.close_reason.CloseReason.{CloseReason}
 use Rattle.rws_wire.specs.declared.close_reason.CloseReason.TheVariants.{Quit, Handshake, Access, Connections, OutOfOrder, TooLarge, Flooded, ResultCut, OutcomeUnknown, SessionState, NotReplayable, Mismatch, Attempts, ReplayTime, Memory}
 use Rattle.rws_wire.specs.declared.drop_cause.DropCause.{DropCause}
@@ -52,9 +57,21 @@ action_text (ToLink link bytes) = line (codes "link ") link (encode_lower bytes)
 action_text (Drop link cause) = line (codes "drop ") link (cause_text cause)
 action_text (Close session reason) = line (codes "close ") session (reason_text reason)
 
--- the lines of actions
-abbrev pub text_of : List Action → List ℕ
-text_of actions = flat_map action_text actions
+-- the line of a step of the pool
+abbrev pub call_text : PoolCall → List ℕ
+call_text (Route session) = codes "route " ++ (decimal session ++ codes "\n")
+call_text (Record server gtid) = line (codes "record ") server (gtid_text gtid)
+call_text (Observe round) = codes "observed\n"
+
+-- what is printed of what a board did: nothing of an event
+abbrev pub text_of_one : Interaction → List ℕ
+text_of_one (Gave event) = []
+text_of_one (Took action) = action_text action
+text_of_one (Told call) = call_text call
+
+-- what is printed of all that a board did
+abbrev pub text_of : List Interaction → List ℕ
+text_of interactions = flat_map text_of_one interactions
 
 -- the line that ends the trace of a script of so many events
 abbrev pub end_line : ℕ → List ℕ

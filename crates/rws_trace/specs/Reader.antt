@@ -5,7 +5,7 @@ use Rattle.std.specs.Io.KnownBytes.{IsAtEnd}
 use Rattle.rws_board.specs.declared.event.Event.{Event}
 use Rattle.rws_board.specs.declared.event.Event.TheVariants.{End}
 use Rattle.rws_trace.specs.Lines.{lines_of, Begins, IsFeedless, IsWhole}
-use Rattle.rws_trace.specs.Script.{Script, ended, told_before, all_before, script_from}
+use Rattle.rws_trace.specs.Script.{Script, first_order, ended, told_before, all_before, script_from}
 use Rattle.rws_trace.specs.declared.event_line.TheConstants.{MAX_LINE}
 use Rattle.rws_trace.specs.declared.found.Found.{Found}
 use Rattle.rws_trace.specs.declared.found.Found.TheVariants.{Line, TooLong, Nothing}
@@ -40,7 +40,7 @@ pub record ReaderState : Type 0 where
 
 -- a reader at the start of a trace
 abbrev pub fresh : TraceSettings → ReaderState
-fresh settings = record { held = []; place = record { settings = settings; number = 1; begun = 0; events = 0; bad_line = None } }
+fresh settings = record { held = []; place = record { settings = settings; number = 1; order = first_order; events = 0; bad_line = None } }
 
 -- at its bad line a script stops for good
 abbrev pub stopped_at : Option ℕ → Script → Script
@@ -49,7 +49,7 @@ stopped_at (Some line) script = ended (Some line)
 
 -- the script of these lines, at a place
 abbrev pub script_at : Place → List (List ℕ) → Script
-script_at place lines = stopped_at place.bad_line (script_from place.settings place.number place.begun lines)
+script_at place lines = stopped_at place.bad_line (script_from place.settings place.number place.order lines)
 
 -- how many events of the script this is: the end is none
 abbrev pub count_of : Event → ℕ

@@ -1,7 +1,7 @@
--- What a board does that reads a trace and prints actions.
+-- What a board does that reads a trace and prints actions and steps of the pool.
 use Rattle.std.specs.Prelude.{◌≡◌, ℕ, ◌+◌, ◌-◌, ◌^◌, ◌≤◌, min, List, [], ◌++◌, length, Option, Some, None, ⊤}
 use Rattle.std.specs.Io.KnownBytes.{Appends, IsAtEnd}
-use Rattle.rws_board.specs.Boards.{Standing, events_given, actions_taken}
+use Rattle.rws_board.specs.Boards.{Standing, events_given}
 use Rattle.rws_board.specs.Boards.Standing.{Going, Ended, NextFailed, ActFailed}
 use Rattle.rws_board.specs.Faults.{Rises}
 use Rattle.rws_board.specs.Put.{AppendsFront}
@@ -44,29 +44,29 @@ pub record Counts (old new : ScriptBoardState) (interactions : List Interaction)
   pub output : old.output_faults ≤ new.output_faults
   pub events : new.reader.place.events ≡ old.reader.place.events + length (events_given interactions)
 
--- the events of these interactions were read, and the lines of their actions were printed; no line was bad
+-- the events of these interactions were read, and the lines of what was done were printed; no line was bad
 pub record Goes (old new : ScriptBoardState) (interactions : List Interaction) : Type 0 where
   pub read : AheadOf old new (Reads old.reader.place new.reader.place (events_given interactions))
-  pub printed : Appends old.taken new.taken (text_of (actions_taken interactions))
+  pub printed : Appends old.taken new.taken (text_of interactions)
 
 -- the script is over, at its end or at a bad line; at its end the input has nothing left
 pub record Ends (old new : ScriptBoardState) (interactions : List Interaction) : Type 0 where
   pub read : AheadOf old new (ReadsOut old.reader.place new.reader.place (events_given interactions))
   pub end : new.reader.place.bad_line ≡ None → IsAtEnd new.left
-  pub printed : Appends old.taken new.taken (text_of (actions_taken interactions))
+  pub printed : Appends old.taken new.taken (text_of interactions)
 
--- the input failed: the events of the whole lines that were read were given, and all lines of actions were printed; no
+-- the input failed: the events of the whole lines that were read were given, and all lines of what was done were printed; no
 -- bytes are held behind the part of a line that was read last
 pub record InputFails (old new : ScriptBoardState) (interactions : List Interaction) : Type 0 where
   pub rises : Rises old.input_faults new.input_faults
   pub drained : new.reader.held ≡ []
   pub read : AheadOf old new (ReadsPart old.reader.place new.reader.place (events_given interactions))
-  pub printed : Appends old.taken new.taken (text_of (actions_taken interactions))
+  pub printed : Appends old.taken new.taken (text_of interactions)
 
--- a front of the lines of the actions was printed
+-- a front of the lines of what was done was printed
 pub record IsCutShort (old new : ScriptBoardState) (interactions : List Interaction) : Type 0 where
   pub read : FirstEvents old.reader old.left (events_given interactions)
-  pub printed : AppendsFront old.taken new.taken (text_of (actions_taken interactions))
+  pub printed : AppendsFront old.taken new.taken (text_of interactions)
 
 abbrev pub StandsSo : ScriptBoardState → ScriptBoardState → List Interaction → Standing → Type 0
 StandsSo old new interactions Going = Goes old new interactions

@@ -1,17 +1,17 @@
 //! One line of a trace, read: its words, and the event that they say.
-ghost use Rattle.std.specs.Prelude.{◌≡◌, ◌==◌, ◌∷◌, [], ◌-◌, ◌^◌, ◌<◌, ◌≤◌, IfOk, IfSome, MatchOption};
-ghost use Rattle.std.specs.Char.{is_ascii_digit};
-ghost use Rattle.std.specs.List.{list_all, list_any};
-ghost use Rattle.rws_trace.specs.EventLine.{words_of, is_number, has_leading_zero, number_within, session_of, link_of, server_of, bytes_of, scramble_of, with_both, begin_of, event_of_two, event_of_three, event_of, meaning_of};
-ghost use Rattle.rws_board.specs.declared.event.Event.TheVariants.{Accept, ClientBytes, LinkBytes};
+ghost use Rattle.std.specs.Prelude.{◌≡◌, ◌==◌, IfOk, option_map};
+ghost use Rattle.std.specs.List.{list_any};
+ghost use Rattle.rws_trace.specs.EventLine.{words_of, session_of, link_of, bytes_of, scramble_of, with_both, begin_of, round_of, event_of_two, event_of_three, event_of_few, event_of, meaning_of};
+ghost use Rattle.rws_board.specs.declared.event.Event.TheVariants.{Accept, ClientBytes, LinkBytes, Observed};
 
-use crate::bytes::place_of;
+use crate::bytes::split_at;
+use crate::naming::read_round;
+use crate::number::{read_link, read_server, read_session, read_u64};
 use crate::settings::TraceSettings;
 use hex::{FromHex, FromHexError};
 use rws_board::Event;
 use rws_wire::Text;
 use std::alloc::{AllocError, Global};
-use std::str;
 
 /// The longest line of a trace, in bytes without its line feed.
 pub const MAX_LINE: usize = 1_048_576;
@@ -54,25 +54,38 @@ fn read_event(
 ) -> Result<Option<Event>, AllocError>
     ensures { IfOk result (λ event. event ≡ event_of settings (words_of line.now)) }
 {
-    let Some((keyword, rest)) = split_word(line) else {
+    let Some((keyword, rest)) = split_at(b' ', line) else {
         return Ok(None);
     };
-    let Some((number, word)) = split_word(rest) else {
-        return Ok(read_two(keyword, rest));
-    };
-    match split_word(word) {
-        Some(_) => Ok(None),
-        None => read_three(alloc, settings, keyword, number, word),
+    if keyword == b"observe".as_slice() {
+        return Ok(read_observe(settings, rest));
     }
+    read_few(alloc, settings, keyword, rest)
 }
 
-// The first word, and what is behind the space that ends it.
-fn split_word(text: &[u8]) -> Option<(&[u8], &[u8])>
-    ensures { MatchOption result (words_of text.now ≡ text.now ∷ []) (λ parts. words_of text.now ≡ parts.0.now ∷ words_of parts.1.now) }
+// A round of the monitor.
+fn read_observe(settings: TraceSettings, words: &[u8]) -> Option<Event>
+    ensures { result ≡ option_map Observed (round_of settings.servers (words_of words.now)) }
 {
-    match place_of(b' ', text) {
-        None => None,
-        Some(end) => Some((&text[..end], &text[end + 1..])),
+    let round = read_round(settings.servers, words)?;
+    Some(Event::Observed { round })
+}
+
+// The event of a line of two or three words.
+fn read_few(
+    alloc: Global,
+    settings: TraceSettings,
+    keyword: &[u8],
+    words: &[u8],
+) -> Result<Option<Event>, AllocError>
+    ensures { IfOk result (λ event. event ≡ event_of_few settings keyword.now (words_of words.now)) }
+{
+    let Some((number, word)) = split_at(b' ', words) else {
+        return Ok(read_two(keyword, words));
+    };
+    match split_at(b' ', word) {
+        Some(_) => Ok(None),
+        None => read_three(alloc, settings, keyword, number, word),
     }
 }
 
@@ -88,6 +101,9 @@ fn read_two(keyword: &[u8], number: &[u8]) -> Option<Event>
     }
     if keyword == b"lost".as_slice() {
         return read_link(number).map(|link| Event::LinkGone { link });
+    }
+    if keyword == b"clock".as_slice() {
+        return read_u64(number).map(|now_ms| Event::Clock { now_ms });
     }
     None
 }
@@ -134,7 +150,7 @@ fn read_begin(settings: TraceSettings, number: &[u8], word: &[u8]) -> Option<Eve
         return None;
     }
     let session = read_session(number)?;
-    let server = read_server(settings.servers, word)?;
+    let server = read_server(0, settings.servers, word)?;
     Some(Event::Begin { session, server })
 }
 
@@ -162,71 +178,6 @@ fn read_link_bytes(alloc: Global, number: &[u8], word: &[u8]) -> Result<Option<E
         Some(bytes) => Ok(Some(Event::LinkBytes { link, bytes })),
         None => Ok(None),
     }
-}
-
-// The number of a session, from 1.
-fn read_session(word: &[u8]) -> Option<u32>
-    ensures { result ≡ session_of word.now }
-{
-    let number = read_number(word, 1, u64::from(u32::MAX))?;
-    Some(number as u32)
-}
-
-// The number of a link, from 1.
-fn read_link(word: &[u8]) -> Option<u64>
-    ensures { result ≡ link_of word.now }
-{
-    read_number(word, 1, u64::MAX)
-}
-
-// The index of one of so many servers.
-fn read_server(servers: u8, word: &[u8]) -> Option<u8>
-    ensures { result ≡ server_of servers word.now }
-{
-    let number = read_number(word, 0, u64::from(servers.saturating_sub(1)))?;
-    Some(number as u8)
-}
-
-// The number that a word writes, between two bounds.
-fn read_number(word: &[u8], least: u64, most: u64) -> Option<u64>
-    ensures value { result ≡ number_within least most word.now }
-    ensures within { IfSome result (λ number. (least ≤ number) × (number ≤ most)) }
-{
-    let number = read_digits(word)?;
-    if least <= number && number <= most {
-        Some(number)
-    } else {
-        None
-    }
-}
-
-// The number that digits write, where it is a `u64`.
-fn read_digits(word: &[u8]) -> Option<u64>
-    ensures { result ≡ number_within 0 (2 ^ 64 - 1) word.now }
-{
-    if !is_number(word) {
-        return None;
-    }
-    match str::from_utf8(word) {
-        Ok(digits) => digits.parse().ok(),
-        Err(_) => None,
-    }
-}
-
-// Whether a word is digits, with no zero before others.
-fn is_number(word: &[u8]) -> bool
-    ensures { result ≡ is_number word.now }
-{
-    match word {
-        [] | [b'0', _, ..] => false,
-        _ => is_digits(word),
-    }
-}
-
-fn is_digits(word: &[u8]) -> bool
-    ensures { result ≡ list_all is_ascii_digit word.now }
-{
-    word.iter().all(|byte| byte.is_ascii_digit())
 }
 
 // The bytes that a word writes in hex, one or more.

@@ -1,4 +1,5 @@
-//! The trace text: the lines of a script that say what events come, and the lines in which actions are printed.
+//! The trace text: the lines of a script that say what events come, and the lines in which actions and steps of
+//! the pool are printed.
 #![tactic(auto)]
 
 mod bytes;
@@ -6,6 +7,9 @@ mod event_line;
 mod event_reader;
 mod found;
 mod line_reader;
+mod naming;
+mod number;
+mod order;
 mod piece;
 mod place;
 mod print;
@@ -15,7 +19,7 @@ mod settings;
 mod side;
 
 pub use event_reader::EventReader;
-pub use print::{action_line, bad_line, end_line, usage_line};
+pub use print::{action_line, bad_line, call_line, end_line, usage_line};
 pub use read_error::ReadError;
 pub use script_board::ScriptBoard;
 pub use settings::TraceSettings;

@@ -3,13 +3,13 @@ ghost use Rattle.std.specs.Prelude.{◌≡◌, ◌+◌, ◌≤◌, List, ◌∷�
 ghost use Rattle.rws_trace.specs.Counting.{IsCounted};
 ghost use Rattle.rws_trace.specs.EventLine.{meaning_of};
 ghost use Rattle.rws_trace.specs.Reader.{IsFound, IsNextIf, TellsIf, script_at, told_count};
-ghost use Rattle.rws_trace.specs.Script.{begun_after, in_order};
+ghost use Rattle.rws_trace.specs.Script.{first_order, in_order};
 ghost use Rattle.rws_board.specs.declared.event.Event.TheVariants.{End};
-ghost use Rattle.rws_trace.specs.declared.event_line.EventLine.TheVariants.{Says};
 ghost use Rattle.rws_trace.specs.declared.event_line.TheConstants.{LAST_LINE, MAX_LINE};
 
 use crate::event_line::{EventLine, LAST_LINE, read_line};
 use crate::found::Found;
+use crate::order::Order;
 use crate::settings::TraceSettings;
 use rws_board::Event;
 use std::alloc::{AllocError, Global};
@@ -21,8 +21,8 @@ pub struct Place {
     pub settings: TraceSettings,
     /// The number of the next line, from 1.
     pub number: u64,
-    /// The session that the last `accept` or `begin` line began, or 0.
-    pub begun: u32,
+    /// What the lines before say of those behind.
+    pub order: Order,
     /// How many events were told, the end left out.
     pub events: u64,
     /// The bad line at which the script stopped.
@@ -32,13 +32,13 @@ pub struct Place {
 impl Place {
     /// The start of a trace.
     pub fn start(settings: TraceSettings) -> Place
-        ensures value { result ≡ record { settings = settings; number = 1; begun = 0; events = 0; bad_line = None } }
+        ensures value { result ≡ record { settings = settings; number = 1; order = first_order; events = 0; bad_line = None } }
         ensures counted { IsCounted result }
     {
         Place {
             settings,
             number: 1,
-            begun: 0,
+            order: Order { begun: 0, clock: 0 },
             events: 0,
             bad_line: None,
         }
@@ -85,13 +85,13 @@ impl Place {
         if self.number == LAST_LINE {
             return Ok(Some(self.stop()));
         }
-        match read_in_order(alloc, self.settings, line, self.begun)? {
+        match read_in_order(alloc, self.settings, line, self.order)? {
             EventLine::Silent => {
                 self.number += 1;
                 Ok(None)
             }
             EventLine::Says(event) => {
-                self.begun = begun_after(self.begun, &event);
+                self.order = self.order.after(&event);
                 self.number += 1;
                 self.events += 1;
                 Ok(Some(event))
@@ -110,29 +110,17 @@ impl Place {
     }
 }
 
-// What a line says behind the session that began last.
+// What a line says in this order.
 fn read_in_order(
     alloc: Global,
     settings: TraceSettings,
     line: &[u8],
-    begun: u32,
+    order: Order,
 ) -> Result<EventLine, AllocError>
-    ensures { IfOk result (λ meaning. meaning ≡ in_order begun (meaning_of settings line.now)) }
+    ensures { IfOk result (λ meaning. meaning ≡ in_order order (meaning_of settings line.now)) }
 {
     match read_line(alloc, settings, line)? {
-        EventLine::Says(Event::Accept { session, .. }) if session <= begun => Ok(EventLine::Bad),
-        EventLine::Says(Event::Begin { session, .. }) if session <= begun => Ok(EventLine::Bad),
+        EventLine::Says(event) if !order.allows(&event) => Ok(EventLine::Bad),
         meaning => Ok(meaning),
-    }
-}
-
-// The session that began last, behind this event.
-fn begun_after(begun: u32, event: &Event) -> u32
-    ensures { result ≡ begun_after begun (Says event.now) }
-{
-    match event {
-        Event::Accept { session, .. } => *session,
-        Event::Begin { session, .. } => *session,
-        _ => begun,
     }
 }

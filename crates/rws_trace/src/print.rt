@@ -1,9 +1,10 @@
 //! The lines that the program prints.
 ghost use Rattle.std.specs.Prelude.{◌≡◌, IfOk, string_bytes};
 ghost use Rattle.hex.specs.Hex.{encode_lower};
-ghost use Rattle.rws_trace.specs.Printing.{action_text, bad_line, cause_text, end_line, reason_text, usage_line};
+ghost use Rattle.rws_trace.specs.Printing.{action_text, bad_line, call_text, cause_text, end_line, reason_text, usage_line};
 
 use rws_board::Action;
+use rws_pool::PoolCall;
 use rws_wire::{CloseReason, DropCause, Text};
 use std::alloc::{AllocError, Global};
 
@@ -36,6 +37,18 @@ pub fn action_line(alloc: Global, action: &Action) -> Result<Text, AllocError>
             let reason = print_reason(alloc, *reason)?;
             format!(in alloc; "close {session} {reason}\n")?
         }
+    };
+    Ok(Text::new(line.into_bytes()))
+}
+
+/// The line of a step of the pool.
+pub fn call_line(alloc: Global, call: &PoolCall) -> Result<Text, AllocError>
+    ensures { IfOk result (λ text. text ≡ call_text call.now) }
+{
+    let line = match call {
+        PoolCall::Route { session } => format!(in alloc; "route {session}\n")?,
+        PoolCall::Record { server, gtid } => format!(in alloc; "record {server} {gtid}\n")?,
+        PoolCall::Observe { .. } => String::from_str(alloc, "observed\n")?,
     };
     Ok(Text::new(line.into_bytes()))
 }

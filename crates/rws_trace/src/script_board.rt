@@ -2,20 +2,25 @@
 //! relate what is left of the input and what the output has taken. It owns no memory, so that a caller knows all three
 //! when the board is dropped.
 ghost use Rattle.std.specs.Prelude.{◌≡◌, ◌∷◌, [], None, IsErrOf, MatchResult};
-ghost use Rattle.rws_board.specs.Boards.{given, standing_after};
+ghost use Rattle.rws_board.specs.Boards.{IsHanded, given, standing_after};
 ghost use Rattle.rws_board.specs.Boards.Standing.{Going, NextFailed, ActFailed};
 ghost use Rattle.rws_board.specs.Faults.{Rises};
-ghost use Rattle.rws_board.specs.declared.interaction.Interaction.TheVariants.{Took};
+ghost use Rattle.rws_board.specs.declared.interaction.Interaction.{Interaction};
+ghost use Rattle.rws_board.specs.declared.interaction.Interaction.TheVariants.{Told, Took};
+ghost use Rattle.rws_trace.specs.Printing.{text_of_one};
 ghost use Rattle.rws_trace.specs.ScriptState.{Did};
 
 use crate::event_reader::EventReader;
-use crate::print::action_line;
+use crate::print::{action_line, call_line};
 use crate::read_error::ReadError;
 use crate::side::Side;
 use rws_board::{Action, Board, BoardFault, Event, Failed, Sink, Source};
+use rws_pool::PoolCall;
+use rws_wire::Text;
 use std::alloc::{AllocError, Global};
 
-/// A board that reads the lines of a trace as its events and prints its actions as lines, each in one put and at once.
+/// A board that reads the lines of a trace as its events and prints its actions and the steps of the pool as
+/// lines, each in one put and at once.
 #[derive(Drop)]
 pub struct ScriptBoard<'a, I: Source, O: Sink> {
     alloc: Global,
@@ -94,10 +99,32 @@ impl<'a, I: Source, O: Sink> ScriptBoard<'a, I, O> {
             (λ fault. Did I.left I.faults O.taken O.faults self.old self.new (Took action.now ∷ []) (ActFailed fault)) }
         ensures failed { IsErrOf result BoardFault.Failed → Rises (O.faults self.old.out.now) (O.faults self.new.out.now) }
     {
-        let line = match action_line(self.alloc, action) {
-            Ok(line) => line,
-            Err(AllocError) => return Err(BoardFault::OutOfMemory),
-        };
+        match action_line(self.alloc, action) {
+            Ok(line) => self.put(&line),
+            Err(AllocError) => Err(BoardFault::OutOfMemory),
+        }
+    }
+
+    // Prints the line of a step of the pool.
+    fn print_call(&mut self, call: &PoolCall) -> Result<(), BoardFault>
+        ensures did { MatchResult result
+            (λ _. Did I.left I.faults O.taken O.faults self.old self.new (Told call.now ∷ []) Going)
+            (λ fault. Did I.left I.faults O.taken O.faults self.old self.new (Told call.now ∷ []) (ActFailed fault)) }
+        ensures failed { IsErrOf result BoardFault.Failed → Rises (O.faults self.old.out.now) (O.faults self.new.out.now) }
+    {
+        match call_line(self.alloc, call) {
+            Ok(line) => self.put(&line),
+            Err(AllocError) => Err(BoardFault::OutOfMemory),
+        }
+    }
+
+    // Puts the line of what the board was handed.
+    fn put(&mut self, line: &Text) -> Result<(), BoardFault>
+        ensures did { (handed : Interaction) → IsHanded handed → text_of_one handed ≡ line.now → MatchResult result
+            (λ _. Did I.left I.faults O.taken O.faults self.old self.new (handed ∷ []) Going)
+            (λ fault. Did I.left I.faults O.taken O.faults self.old self.new (handed ∷ []) (ActFailed fault)) }
+        ensures failed { IsErrOf result BoardFault.Failed → Rises (O.faults self.old.out.now) (O.faults self.new.out.now) }
+    {
         match self.out.put(line.as_slice()) {
             Ok(()) => Ok(()),
             Err(Failed) => {
@@ -122,6 +149,10 @@ impl<'a, I: Source, O: Sink> Board for ScriptBoard<'a, I, O> {
 
     fn act(&mut self, action: Action) -> Result<(), BoardFault> {
         self.print(&action)
+    }
+
+    fn tell(&mut self, call: &PoolCall) -> Result<(), BoardFault> {
+        self.print_call(call)
     }
 
     ghost use Rattle.std.specs.Prelude.{refl};

@@ -1,7 +1,7 @@
 use Rattle.std.proofs.Common.{sym}
 use Rattle.std.proofs.lemmas.Str.{IsUtf8-from_ascii}
 use Rattle.rws_trace.proofs.Numbers.{is_number-ascii, number_within-parse}
-use Rattle.rws_trace.proofs.event_line.read_digits.Goals as goal
+use Rattle.rws_trace.proofs.number.read_u64.Goals as goal
 
 -- digits are text
 pub returns-in-Err : goal.returns-in-Err
