@@ -20,7 +20,7 @@ use Rattle.rws_record.proofs.StepLemmas.Due.{comes, connects, takes}
 use Rattle.rws_record.proofs.StepLemmas.Step.{pays, asks, prepares, sends, floods, reads}
 use Rattle.rws_record.proofs.OpeningLemmas.{is_answered, plain_unless_answered, step_unanswered}
 use Rattle.rws_record.proofs.EntryLemmas.{Next, of_next_entry}
-use Rattle.rws_record.proofs.EntryLemmas.Next.{did, answered, heard}
+use Rattle.rws_record.proofs.EntryLemmas.Next.{did, answered, heard, observes}
 use Rattle.rws_record.proofs.RecordLemmas.{IsStill, one_more, Hearable, each_of, first_of, rests_each}
 use Rattle.rws_record.proofs.RecordLemmas.Hearable.{begins_it, comes_in}
 
@@ -270,6 +270,7 @@ next_numbered {config} {run} legal (answered {session = session} h a) numbered =
     by_asked (Some its) link server login others e = cc
 next_numbered {config} {run} legal (heard quiet unasked u) numbered =
     heard_numbered config (rests_each run (each_of legal) quiet unasked) (first_of (each_of legal).tells u).hearable numbered
+next_numbered legal (observes quiet unasked u o) numbered = record { low = numbered.low; apart = numbered.apart; next = numbered.next }
 
 pub numbered_of : {config : Config} {run : List Entry} → IsRun config run → Numbered run
 numbered_of starts = record {

@@ -6,7 +6,7 @@ use Rattle.std.proofs.lemmas.Bool.{and_parts}
 use Rattle.rws_board.specs.declared.event.Event.{Event}
 use Rattle.rws_config.specs.declared.config.Config.{Config}
 use Rattle.rws_record.specs.Run.{Entry, IsRun, is_ample, is_want, next_entry, events_of, done_in}
-use Rattle.rws_record.specs.Run.Entry.{Came, Heard, Did}
+use Rattle.rws_record.specs.Run.Entry.{Came, Heard, Did, Observes}
 use Rattle.rws_record.specs.Run.IsRun.{starts, came as legal_came, goes_on as legal_goes_on, starves as legal_starves}
 use Rattle.rws_record.specs.Laws.{OneRun, OneOutcome}
 use Rattle.rws_record.proofs.EntryLemmas.{of_next_entry, same_events}
@@ -36,6 +36,7 @@ then_came (came quiet rest) q = came quiet (then_came rest q)
 ample_below : (entry : Entry) (run : List Entry) → is_ample (entry ∷ run) ≡ true → is_ample run ≡ true
 ample_below (Came event) run ample = ample
 ample_below (Heard session item) run ample = ample
+ample_below (Observes round) run ample = ample
 ample_below (Did session item) run ample = (and_parts (not (is_want item)) (is_ample run) ample).1
 
 reached : {config : Config} {run : List Entry} → IsRun config run → is_ample run ≡ true → Reaches config run [] (events_of run)

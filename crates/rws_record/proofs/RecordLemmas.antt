@@ -16,11 +16,11 @@ use Rattle.rws_record.specs.Rules.{next}
 use Rattle.rws_record.specs.Record.{IsBeginning, IsRecord, IsInput, CanBeMade, want_number}
 use Rattle.rws_record.specs.Record.IsRecord.{begins, steps, answers, hears, starves}
 use Rattle.rws_record.specs.Run.{Entry, IsRun, next_entry, record_of, is_live, begun_by, greatest, last_link, owner, if_so, told_by, told_on, untold, hearer, step_of, answer_of, answering, has_room, beginning, only_server}
-use Rattle.rws_record.specs.Run.Entry.{Came, Heard, Did}
+use Rattle.rws_record.specs.Run.Entry.{Came, Heard, Did, Observes}
 use Rattle.rws_record.specs.Run.IsRun.{starts, came, goes_on, starves as run_starves}
 use Rattle.rws_record.specs.Laws.{Records}
 use Rattle.rws_record.proofs.EntryLemmas.{Next, of_next_entry, rests}
-use Rattle.rws_record.proofs.EntryLemmas.Next.{did, answered, heard}
+use Rattle.rws_record.proofs.EntryLemmas.Next.{did, answered, heard, observes}
 
 -- the same fact on a record and on one with an item more
 module _ (P : List Item → Type 0) (session other : ℕ) (item : Item) (past : List Item)
@@ -165,6 +165,8 @@ event_tells run each (events.LinkBytes link bytes) =
     link_tells run each (events.LinkBytes link bytes) link (LinkBytes link bytes) (λ state. true) (owner link run) (λ past has is. has)
 event_tells run each (events.LinkGone link) =
     link_tells run each (events.LinkGone link) link (LinkLost link) (λ state. true) (owner link run) (λ past has is. has)
+event_tells run each (events.Clock now_ms) = nothing
+event_tells run each (events.Observed round) = nothing
 event_tells run each events.End = nothing
 
 -- An event
@@ -280,6 +282,13 @@ next_each {config} {run} each (answered {session = session} {login = login} h a)
     goes_each each h (answer_began past login a)
     (answer_legal past login (last_link run + 1) only_server a (each.legal session))
 next_each each (heard quiet unasked u) = heard_each each quiet unasked u (first_of each.tells u)
+next_each each (observes quiet unasked u o) = record {
+  rests = each.rests;
+  unborn = each.unborn;
+  legal = each.legal;
+  tells = rw u nothing;
+  told = each.told;
+}
 
 -- Memory is wanting
 
@@ -291,6 +300,7 @@ hearer_began (Heard its item ∷ run) session h none =
     let same : its ≡ session = cc in
     let none : item ∷ record_of session run ≡ [] = rw (eq-eqb its session same) at none in
     absurd cc
+hearer_began (Observes round ∷ run) session h none = hearer_began run session h none
 hearer_began (Did its item ∷ run) session h none =
     one_more (λ past. past ≡ [] → ⊥) its session item (record_of session run) (λ _ e. absurd cc) (λ _. hearer_began run session h) none
 

@@ -1,6 +1,6 @@
 -- Runs of a worker over lists of events, computed by the definition: what each does was reasoned out by hand from the
 -- rules, or by a model that shares nothing with this one. Bytes are written as in a trace.
-use Rattle.std.proofs.Common.{◌≡◌, ℕ, suc, zero, ◌+◌, ◌-◌, ◌*◌, Bool, true, false, List, [], ◌∷◌, ◌++◌, refl, sym, ap, ◌∙◌, append_assoc, append-nil, subst, Option, Some, None, codes}
+use Rattle.std.proofs.Common.{◌≡◌, ℕ, suc, zero, ◌+◌, ◌-◌, ◌*◌, Bool, true, false, List, [], ◌∷◌, ◌++◌, refl, sym, ap, ◌∙◌, append_assoc, append-nil, map, subst, Option, Some, None, codes}
 use Rattle.std.specs.Prelude.{nat_lt, ◌&&◌, if◌then◌else◌}
 use Rattle.rws_wire.specs.declared.close_reason.CloseReason.TheVariants.{Quit, OutOfOrder, ResultCut, OutcomeUnknown, SessionState, Memory}
 use Rattle.rws_wire.specs.declared.drop_cause.DropCause.TheVariants.{BadWire, BadReply, Unasked, End as AtEnd}
@@ -18,7 +18,13 @@ use Rattle.rws_reply.specs.ClientForm.{client_ok, client_form}
 use Rattle.rws_board.specs.declared.action.Action.{Action}
 use Rattle.rws_board.specs.declared.action.Action.TheVariants.{ToClient, ToLink, Drop, Close}
 use Rattle.rws_board.specs.declared.event.Event.{Event}
-use Rattle.rws_board.specs.declared.event.Event.TheVariants.{Begin, ClientBytes, ClientGone, LinkBytes, LinkGone, End}
+use Rattle.rws_board.specs.declared.event.Event.TheVariants.{Begin, ClientBytes, ClientGone, Clock, LinkBytes, LinkGone, Observed, End}
+use Rattle.rws_board.specs.declared.interaction.Interaction.{Interaction}
+use Rattle.rws_board.specs.declared.interaction.Interaction.TheVariants.{Took, Told}
+use Rattle.rws_pool.specs.declared.events.PoolCall.TheVariants.{Observe}
+use Rattle.rws_pool.specs.declared.words.Round.{Round}
+use Rattle.rws_pool.specs.declared.words.Seen.{Seen}
+use Rattle.rws_pool.specs.declared.words.State.TheVariants.{Down, Master, Slave}
 use Rattle.rws_config.specs.BuiltIn.{built_in}
 use Rattle.rws_record.specs.Item.Item.{Starves}
 use Rattle.rws_record.specs.Values.{is_starved}
@@ -101,13 +107,17 @@ legal_over fuel (event ∷ events) run legal settles =
     (legal_over fuel events now now_legal parts.1)
 
 -- the legal run over these events, under the built-in settings, does this
-pub record Does (events : List Event) (actions : List Action) : Type 0 where
+pub record DoesAll (events : List Event) (interactions : List Interaction) : Type 0 where
   run : List Entry
   legal : IsRunOver built_in events run
-  does : done_in run ≡ actions
+  does : done_in run ≡ interactions
 
-pub does_in : (fuel : ℕ) {events : List Event} {actions : List Action} → is_settled fuel events [] ≡ true
-    → done_in (over fuel events []) ≡ actions → Does events actions
+-- it does this, and nothing to the words of the pool
+abbrev pub Does : List Event → List Action → Type 0
+Does events actions = DoesAll events (map Took actions)
+
+pub does_in : (fuel : ℕ) {events : List Event} {interactions : List Interaction} → is_settled fuel events [] ≡ true
+    → done_in (over fuel events []) ≡ interactions → DoesAll events interactions
 does_in fuel {events} settles does =
     record { run = over fuel events []; legal = legal_over fuel events [] starts settles; does = does }
 
@@ -123,12 +133,12 @@ starved steps session made before event =
 abbrev wanting : ℕ → ℕ → Bool → List Event → Event → List Entry
 wanting steps session made before event = settled 16 (starved steps session made before event)
 
-module _ (steps session : ℕ) (made : Bool) (before : List Event) (event : Event) (after : List Event) (actions : List Action)
+module _ (steps session : ℕ) (made : Bool) (before : List Event) (event : Event) (after : List Event) (interactions : List Interaction)
     (settles : is_settled 16 before [] ≡ true) (hears : hearer (until steps before event) ≡ Some session)
     (once : is_starved (record_of session (until steps before event)) ≡ false)
     (can : CanBeMade made (record_of session (until steps before event)))
     (settles_after : is_settled 16 after (wanting steps session made before event) ≡ true)
-    (does : done_in (over 16 after (wanting steps session made before event)) ≡ actions) where
+    (does : done_in (over 16 after (wanting steps session made before event)) ≡ interactions) where
   start : IsRunOver built_in before (over 16 before [])
   start = legal_over 16 before [] starts settles
 
@@ -143,7 +153,7 @@ module _ (steps session : ℕ) (made : Bool) (before : List Event) (event : Even
       ∙ settled_events steps (Came event ∷ over 16 before [])
       ∙ ap (λ (list : List Event). list ++ event ∷ []) start.heard
 
-  wants_in : Does ((before ++ event ∷ []) ++ after) actions
+  wants_in : DoesAll ((before ++ event ∷ []) ++ after) interactions
   wants_in = record {
     run = over 16 after (wanting steps session made before event);
     legal = subst (λ (list : List Event). IsRunOver built_in (list ++ after) (over 16 after (wanting steps session made before event))) heard
@@ -486,3 +496,27 @@ unfolding lenenc lenenc_bytes full_packet spelling number_behind payload_behind 
 want_for_a_session =
     wants_in 1 1 false [] (Begin 1 0) (Begin 2 0 ∷ from_client 1 (codes "010000000e") ∷ from_client 2 (codes "010000000e") ∷ End ∷ [])
     _ refl refl refl tt refl refl
+
+-- Rounds of the monitor, over the three servers of the built-in settings
+
+abbrev primary_and_replica : Option Seen → Round
+primary_and_replica fourth = record {
+  seen = Some (record { state = Master; position = 7 }) ∷ None ∷ Some (record { state = Slave; position = 5 }) ∷ fourth
+      ∷ None ∷ None ∷ None ∷ [];
+}
+
+-- each is taken in where it comes, and what sessions do stays as it is
+rounds_are_taken_in : DoesAll
+    (Begin 1 0 ∷ Observed (primary_and_replica None) ∷ Clock 5000 ∷ from_client 1 (codes "010000000e") ∷
+    Observed (primary_and_replica None) ∷ End ∷ [])
+    (Told (Observe (primary_and_replica None)) ∷ Took (to_client 1 (codes "0700000100000002000000")) ∷
+    Told (Observe (primary_and_replica None)) ∷ [])
+unfolding lenenc lenenc_bytes full_packet spelling number_behind payload_behind first_payload eof_at err_at err_code err_bytes bytes_at number_at fixed_at lenenc_at text_at text_bytes ended state_at texts_at ok_at ok_status texts_bytes ok_bytes prepare_ok_at eof_status prepared_counts column_count is_definition is_row progress role client_ok client_form
+rounds_are_taken_in = does_in 16 refl refl
+
+-- one that names a fourth server isn't, whatever it says of it
+a_round_with_a_further_server : DoesAll
+    (Observed (primary_and_replica (Some (record { state = Down; position = 0 }))) ∷ Observed (primary_and_replica None) ∷ End ∷ [])
+    (Told (Observe (primary_and_replica None)) ∷ [])
+unfolding payload_behind first_payload
+a_round_with_a_further_server = does_in 16 refl refl

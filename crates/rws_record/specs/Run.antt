@@ -1,10 +1,16 @@
--- The run of a worker: the events that it was given, what they told its sessions, and what its sessions did, in one
--- list, newest first.
-use Rattle.std.specs.Prelude.{◌≡◌, ℕ, ◌+◌, max, Bool, true, false, not, List, [], ◌∷◌, ◌++◌, length, drop, filter, nat_lt, ◌==◌, ◌&&◌, Option, Some, None, if◌then◌else◌}
+-- The run of a worker: the events that it was given, what they told its sessions, what its sessions did, and which
+-- rounds of the monitor it took into the words of the pool, in one list, newest first.
+use Rattle.std.specs.Prelude.{◌≡◌, ℕ, ◌+◌, max, Bool, true, false, not, List, [], ◌∷◌, ◌++◌, length, drop, filter, map, nat_lt, ◌==◌, ◌&&◌, Option, Some, None, if◌then◌else◌}
 use Rattle.std.specs.Option.{option_map}
 use Rattle.rws_board.specs.declared.event.Event.{Event}
 use Rattle.rws_board.specs.declared.event.Event.TheVariants as events
-use Rattle.rws_board.specs.declared.action.Action.{Action}
+use Rattle.rws_board.specs.declared.interaction.Interaction.{Interaction}
+use Rattle.rws_board.specs.declared.interaction.Interaction.TheVariants.{Took, Told}
+use Rattle.rws_pool.specs.declared.events.PoolCall.TheVariants as calls
+use Rattle.rws_pool.specs.declared.events.PoolEvent.{PoolEvent}
+use Rattle.rws_pool.specs.declared.events.PoolEvent.TheVariants.{Observe}
+use Rattle.rws_pool.specs.declared.words.Round.{Round}
+use Rattle.rws_pool.specs.declared.words.Seen.{Seen}
 use Rattle.rws_config.specs.declared.config.Config.{Config}
 use Rattle.rws_record.specs.Item.{Item}
 use Rattle.rws_record.specs.Item.Item.{Accepted, TurnsAway, Began, ClientBytes, LinkReady, LinkBytes, ClientGone, LinkLost, Routed, Starves}
@@ -22,6 +28,8 @@ pub data Entry : Type 0 where
   Heard : (session : ℕ) → Item → Entry
   -- a session went on by a step of its own, or was answered by its worker
   Did : (session : ℕ) → Item → Entry
+  -- the words of the pool took in a round of the monitor
+  Observes : Round → Entry
 
 -- the record of one session
 abbrev pub record_of : ℕ → List Entry → List Item
@@ -29,6 +37,7 @@ record_of session [] = []
 record_of session (Came event ∷ run) = record_of session run
 record_of session (Heard other item ∷ run) = if other == session then item ∷ record_of session run else record_of session run
 record_of session (Did other item ∷ run) = if other == session then item ∷ record_of session run else record_of session run
+record_of session (Observes round ∷ run) = record_of session run
 
 -- Sessions and links
 
@@ -71,6 +80,7 @@ abbrev pub opens_for : Entry → Option (ℕ × ℕ)
 opens_for (Came event) = None
 opens_for (Heard session item) = option_map (λ opened. (session, opened.0)) (opens item)
 opens_for (Did session item) = option_map (λ opened. (session, opened.0)) (opens item)
+opens_for (Observes round) = None
 
 abbrev pub link_by : Option (ℕ × ℕ) → ℕ → ℕ
 link_by (Some opened) before = opened.1
@@ -129,6 +139,9 @@ told_by config (events.ClientGone session) run = told_to session ClientGone run
 told_by config (events.LinkReady link) run = told_on link (LinkReady link) (λ state. is_new state) (owner link run) run
 told_by config (events.LinkBytes link bytes) run = told_on link (LinkBytes link bytes) (λ state. true) (owner link run) run
 told_by config (events.LinkGone link) run = told_on link (LinkLost link) (λ state. true) (owner link run) run
+-- no session hears of the clock or of the monitor yet: commands aren't routed
+told_by config (events.Clock now) run = []
+told_by config (events.Observed round) run = []
 told_by config events.End run = []
 
 -- what the last event tells that wasn't heard yet
@@ -137,6 +150,31 @@ untold config [] = []
 untold config (Came event ∷ run) = told_by config event run
 untold config (Heard session item ∷ run) = drop 1 (untold config run)
 untold config (Did session item ∷ run) = untold config run
+untold config (Observes round ∷ run) = untold config run
+
+-- What is taken in of an event
+
+-- no server is named
+abbrev pub names_none : List (Option Seen) → Bool
+names_none [] = true
+names_none (None ∷ more) = names_none more
+names_none (Some seen ∷ more) = false
+
+-- none is named but those below this number
+abbrev pub names_only : ℕ → Round → Bool
+names_only count round = names_none (drop count round.seen)
+
+-- a round of the monitor, unless it names a server that the settings lack
+abbrev pub round_of : Config → Event → Option Round
+round_of config (events.Observed round) = if names_only (length config.servers) round then Some round else None
+round_of config _ = None
+
+-- what is to be taken in of the last event and wasn't yet
+abbrev pub unobserved : Config → List Entry → Option Round
+unobserved config [] = None
+unobserved config (Came event ∷ run) = round_of config event
+unobserved config (Observes round ∷ run) = None
+unobserved config (_ ∷ run) = unobserved config run
 
 -- the session that heard of the last event last
 abbrev pub hearer : List Entry → Option ℕ
@@ -144,6 +182,7 @@ hearer [] = None
 hearer (Came event ∷ run) = None
 hearer (Heard session item ∷ run) = Some session
 hearer (Did session item ∷ run) = hearer run
+hearer (Observes round ∷ run) = hearer run
 
 -- The run
 
@@ -168,10 +207,14 @@ abbrev pub hearing : List (ℕ × Item) → Option Entry
 hearing [] = None
 hearing (told ∷ others) = Some (Heard told.0 told.1)
 
--- The next entry but an event: the session that heard something goes on until it rests, the worker's answers between, and then
--- the next one hears what it is told. None where the run rests.
+abbrev pub observing : Option Round → Option Entry
+observing round = option_map (λ r. Observes r) round
+
+-- The next entry but an event: the session that heard something goes on until it rests, the worker's answers between, then
+-- the next one hears what it is told, and at last the words take the round in. None where the run rests.
 abbrev pub next_entry : Config → List Entry → Option Entry
-next_entry config run = step_of config (hearer run) run or (answer_of (hearer run) run or hearing (untold config run))
+next_entry config run =
+    step_of config (hearer run) run or (answer_of (hearer run) run or (hearing (untold config run) or observing (unobserved config run)))
 
 -- Each event comes when the run rests, and each other entry is the next one; but to the session that heard of the last
 -- event memory may be wanting, once.
@@ -205,10 +248,17 @@ events_of (Came event ∷ run) = events_of run ++ event ∷ []
 events_of (_ ∷ run) = events_of run
 
 -- what is done outside in a run, oldest first
-abbrev pub done_in : List Entry → List Action
+abbrev pub done_in : List Entry → List Interaction
 done_in [] = []
-done_in (Did session item ∷ run) = done_in run ++ outs_of session item (record_of session run)
+done_in (Did session item ∷ run) = done_in run ++ map Took (outs_of session item (record_of session run))
+done_in (Observes round ∷ run) = done_in run ++ Told (calls.Observe round) ∷ []
 done_in (_ ∷ run) = done_in run
+
+-- the steps that the words of the pool took in a run, oldest first
+abbrev pub pool_events_of : List Entry → List PoolEvent
+pool_events_of [] = []
+pool_events_of (Observes round ∷ run) = pool_events_of run ++ Observe round ∷ []
+pool_events_of (_ ∷ run) = pool_events_of run
 
 -- a run over these events that rests
 pub record IsRunOver (config : Config) (events : List Event) (run : List Entry) : Type 0 where
