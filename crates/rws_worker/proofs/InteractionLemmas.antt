@@ -1,24 +1,32 @@
 -- What passes between a worker and its board in a run: the events that the run heard, and what it did.
 use Rattle.std.proofs.Common.{◌≡◌, ℕ, ◌≤◌, ◌⊎◌, inl, inr, arith, length, length-append, List, [], ◌∷◌, ◌++◌, map, refl, sym, ap, ◌∙◌, Option, Some, None, option_map}
 use Rattle.std.proofs.lemmas.List.{append-nil, append_cancel_right}
-use Rattle.rws_board.specs.Boards.{events_given, actions_taken, given}
-use Rattle.rws_board.proofs.JoinLemmas.{events_given-append, actions_taken-append}
+use Rattle.std.specs.List.{flat_map}
+use Rattle.rws_board.specs.Boards.{events_given, given}
+use Rattle.rws_board.proofs.JoinLemmas.{events_given-append}
 use Rattle.rws_board.specs.declared.action.Action.{Action}
 use Rattle.rws_board.specs.declared.event.Event.{Event}
 use Rattle.rws_board.specs.declared.event.Event.TheVariants as events
 use Rattle.rws_board.specs.declared.interaction.Interaction.{Interaction}
-use Rattle.rws_board.specs.declared.interaction.Interaction.TheVariants.{Gave, Took}
+use Rattle.rws_board.specs.declared.interaction.Interaction.TheVariants.{Gave, Took, Told}
+use Rattle.rws_pool.specs.declared.events.PoolCall.TheVariants.{Observe}
+use Rattle.rws_pool.specs.declared.events.PoolEvent.{PoolEvent}
+use Rattle.rws_pool.specs.declared.words.PoolWords.{PoolWords}
+use Rattle.rws_pool.specs.declared.words.Round.{Round}
+use Rattle.rws_pool.specs.History.{event_of}
+use Rattle.rws_pool.specs.Machine.{pool_from, pool_step}
 use Rattle.rws_config.specs.declared.config.Config.{Config}
 use Rattle.rws_record.specs.Item.{Item}
 use Rattle.rws_record.specs.Item.Item.{Starves}
 use Rattle.rws_record.specs.Outputs.{outs_of}
 use Rattle.rws_record.specs.Rules.{next, ◌or◌}
-use Rattle.rws_record.specs.Run.{Entry, IsRun, next_entry, record_of, step_of, hearer, hearing, untold, events_of, done_in}
-use Rattle.rws_record.specs.Run.Entry.{Came, Heard, Did}
+use Rattle.rws_record.specs.Run.{Entry, IsRun, next_entry, record_of, step_of, hearer, hearing, untold, events_of, done_in, pool_events_of}
+use Rattle.rws_record.specs.Run.Entry.{Came, Heard, Did, Observes}
 use Rattle.rws_record.specs.Run.IsRun.{starts, came, goes_on, starves}
 use Rattle.rws_record.proofs.EntryLemmas.{Next, of_next_entry}
-use Rattle.rws_record.proofs.EntryLemmas.Next.{did as goes_by, answered as goes_answered, heard as goes_hearing}
-use Rattle.rws_worker.specs.Standing.{interactions_of}
+use Rattle.rws_record.proofs.EntryLemmas.Next.{did as goes_by, answered as goes_answered, heard as goes_hearing, observes as goes_observing}
+use Rattle.rws_worker.specs.Standing.{interactions_of, without_gave}
+use Rattle.rws_worker.specs.Working.{events_told}
 
 -- actions alone give no event, and are taken as they are
 
@@ -26,19 +34,39 @@ takes_give_none : (actions : List Action) → events_given (map Took actions) �
 takes_give_none [] = refl
 takes_give_none (action ∷ actions) = takes_give_none actions
 
-takes_are_taken : (actions : List Action) → actions_taken (map Took actions) ≡ actions
+takes_are_taken : (actions : List Action) → without_gave (map Took actions) ≡ map Took actions
 takes_are_taken [] = refl
-takes_are_taken (action ∷ actions) = ap (λ (xs : List Action). action ∷ xs) (takes_are_taken actions)
+takes_are_taken (action ∷ actions) = ap (λ (xs : List Interaction). Took action ∷ xs) (takes_are_taken actions)
 
-given_takes_none : (event : Event) → actions_taken (given event) ≡ []
-given_takes_none (events.Accept session scramble) = refl
-given_takes_none (events.Begin session server) = refl
-given_takes_none (events.ClientBytes session bytes) = refl
-given_takes_none (events.ClientGone session) = refl
-given_takes_none (events.LinkReady link) = refl
-given_takes_none (events.LinkBytes link bytes) = refl
-given_takes_none (events.LinkGone link) = refl
-given_takes_none events.End = refl
+takes_tell_none : (actions : List Action) → events_told (map Took actions) ≡ []
+takes_tell_none [] = refl
+takes_tell_none (action ∷ actions) = takes_tell_none actions
+
+-- an event that is given is left out, and none of the words takes anything of it
+
+given_is_left_out : (event : Event) → without_gave (given event) ≡ []
+given_is_left_out (events.Accept session scramble) = refl
+given_is_left_out (events.Begin session server) = refl
+given_is_left_out (events.ClientBytes session bytes) = refl
+given_is_left_out (events.ClientGone session) = refl
+given_is_left_out (events.LinkReady link) = refl
+given_is_left_out (events.LinkBytes link bytes) = refl
+given_is_left_out (events.LinkGone link) = refl
+given_is_left_out (events.Clock now_ms) = refl
+given_is_left_out (events.Observed round) = refl
+given_is_left_out events.End = refl
+
+given_tells_none : (event : Event) → events_told (given event) ≡ []
+given_tells_none (events.Accept session scramble) = refl
+given_tells_none (events.Begin session server) = refl
+given_tells_none (events.ClientBytes session bytes) = refl
+given_tells_none (events.ClientGone session) = refl
+given_tells_none (events.LinkReady link) = refl
+given_tells_none (events.LinkBytes link bytes) = refl
+given_tells_none (events.LinkGone link) = refl
+given_tells_none (events.Clock now_ms) = refl
+given_tells_none (events.Observed round) = refl
+given_tells_none events.End = refl
 
 one_event : (run : List Entry) (event : Event)
     → events_given (interactions_of (Came event ∷ run)) ≡ events_given (interactions_of run) ++ events_given (given event)
@@ -52,6 +80,11 @@ no_more session item run =
     ∙ ap (λ (xs : List Event). events_given (interactions_of run) ++ xs) (takes_give_none outs)
     ∙ append-nil (events_given (interactions_of run))
 
+no_more_observed : (round : Round) (run : List Entry)
+    → events_given (interactions_of (Observes round ∷ run)) ≡ events_given (interactions_of run)
+no_more_observed round run =
+    events_given-append (interactions_of run) (Told (Observe round) ∷ []) ∙ append-nil (events_given (interactions_of run))
+
 -- the end isn't among the events of a run, where they all were given
 
 at_most_one : (event : Event) → length (events_given (given event)) ≤ 1
@@ -62,6 +95,8 @@ at_most_one (events.ClientGone session) = omega arith
 at_most_one (events.LinkReady link) = omega arith
 at_most_one (events.LinkBytes link bytes) = omega arith
 at_most_one (events.LinkGone link) = omega arith
+at_most_one (events.Clock now_ms) = omega arith
+at_most_one (events.Observed round) = omega arith
 at_most_one events.End = omega arith
 
 at_most_all : (run : List Entry) → length (events_given (interactions_of run)) ≤ length (events_of run)
@@ -73,6 +108,8 @@ at_most_all (Came event ∷ run) =
 at_most_all (Heard session item ∷ run) = at_most_all run
 at_most_all (Did session item ∷ run) =
     let same = ap length (no_more session item run) in let before = at_most_all run in omega arith
+at_most_all (Observes round ∷ run) =
+    let same = ap length (no_more_observed round run) in let before = at_most_all run in omega arith
 
 -- an event that was given, as all before it
 record Given (run : List Entry) (event : Event) : Type 0 where
@@ -88,24 +125,76 @@ given_last run (events.ClientGone session) e = record { given_so = refl; told = 
 given_last run (events.LinkReady link) e = record { given_so = refl; told = append_cancel_right _ _ _ e }
 given_last run (events.LinkBytes link bytes) e = record { given_so = refl; told = append_cancel_right _ _ _ e }
 given_last run (events.LinkGone link) e = record { given_so = refl; told = append_cancel_right _ _ _ e }
+given_last run (events.Clock now_ms) e = record { given_so = refl; told = append_cancel_right _ _ _ e }
+given_last run (events.Observed round) e = record { given_so = refl; told = append_cancel_right _ _ _ e }
 given_last run events.End e =
     let low = at_most_all run in
     let same = ap length e in
     let none = length-append (events_given (interactions_of run)) [] in
     let one = length-append (events_of run) (events.End ∷ []) in absurd (omega arith)
 
--- the actions taken are those that the run did
-pub actions_taken-run : (run : List Entry) → actions_taken (interactions_of run) ≡ done_in run
-actions_taken-run [] = refl
-actions_taken-run (Came event ∷ run) =
-    actions_taken-append (interactions_of run) (given event) ∙ ap (λ (xs : List Action). actions_taken (interactions_of run) ++ xs) (given_takes_none event)
-    ∙ append-nil (actions_taken (interactions_of run)) ∙ actions_taken-run run
-actions_taken-run (Heard session item ∷ run) = actions_taken-run run
-actions_taken-run (Did session item ∷ run) =
+-- What is done outside, and what the words take
+
+pub without_gave-append : (xs ys : List Interaction) → without_gave (xs ++ ys) ≡ without_gave xs ++ without_gave ys
+without_gave-append [] ys = refl
+without_gave-append (Gave event ∷ xs) ys = without_gave-append xs ys
+without_gave-append (Took action ∷ xs) ys = ap (λ (zs : List Interaction). Took action ∷ zs) (without_gave-append xs ys)
+without_gave-append (Told call ∷ xs) ys = ap (λ (zs : List Interaction). Told call ∷ zs) (without_gave-append xs ys)
+
+-- what passes in a run, without the events, is what the run did outside
+pub without_gave-run : (run : List Entry) → without_gave (interactions_of run) ≡ done_in run
+without_gave-run [] = refl
+without_gave-run (Came event ∷ run) =
+    without_gave-append (interactions_of run) (given event)
+    ∙ ap (λ (xs : List Interaction). without_gave (interactions_of run) ++ xs) (given_is_left_out event)
+    ∙ append-nil (without_gave (interactions_of run)) ∙ without_gave-run run
+without_gave-run (Heard session item ∷ run) = without_gave-run run
+without_gave-run (Did session item ∷ run) =
     let outs = outs_of session item (record_of session run) in
-    actions_taken-append (interactions_of run) (map Took outs)
-    ∙ ap (λ (xs : List Action). actions_taken (interactions_of run) ++ xs) (takes_are_taken outs)
-    ∙ ap (λ (xs : List Action). xs ++ outs) (actions_taken-run run)
+    without_gave-append (interactions_of run) (map Took outs)
+    ∙ ap (λ (xs : List Interaction). without_gave (interactions_of run) ++ xs) (takes_are_taken outs)
+    ∙ ap (λ (xs : List Interaction). xs ++ map Took outs) (without_gave-run run)
+without_gave-run (Observes round ∷ run) =
+    without_gave-append (interactions_of run) (Told (Observe round) ∷ [])
+    ∙ ap (λ (xs : List Interaction). xs ++ Told (Observe round) ∷ []) (without_gave-run run)
+
+-- what says nothing of events says the same of the list without them
+pub flat_map-without_gave : {A : Type 0} (f : Interaction → List A) → ((event : Event) → f (Gave event) ≡ [])
+    → (interactions : List Interaction) → flat_map f (without_gave interactions) ≡ flat_map f interactions
+flat_map-without_gave f none [] = refl
+flat_map-without_gave {A} f none (Gave event ∷ interactions) =
+    flat_map-without_gave f none interactions ∙ ap (λ (xs : List A). xs ++ flat_map f interactions) (sym (none event))
+flat_map-without_gave {A} f none (Took action ∷ interactions) =
+    ap (λ (xs : List A). f (Took action) ++ xs) (flat_map-without_gave f none interactions)
+flat_map-without_gave {A} f none (Told call ∷ interactions) =
+    ap (λ (xs : List A). f (Told call) ++ xs) (flat_map-without_gave f none interactions)
+
+pub events_told-append : (xs ys : List Interaction) → events_told (xs ++ ys) ≡ events_told xs ++ events_told ys
+events_told-append [] ys = refl
+events_told-append (Gave event ∷ xs) ys = events_told-append xs ys
+events_told-append (Took action ∷ xs) ys = events_told-append xs ys
+events_told-append (Told call ∷ xs) ys = ap (λ (zs : List PoolEvent). event_of call ∷ zs) (events_told-append xs ys)
+
+-- the steps that are told in a run are those that the words take in it
+pub events_told-run : (run : List Entry) → events_told (interactions_of run) ≡ pool_events_of run
+events_told-run [] = refl
+events_told-run (Came event ∷ run) =
+    events_told-append (interactions_of run) (given event)
+    ∙ ap (λ (xs : List PoolEvent). events_told (interactions_of run) ++ xs) (given_tells_none event)
+    ∙ append-nil (events_told (interactions_of run)) ∙ events_told-run run
+events_told-run (Heard session item ∷ run) = events_told-run run
+events_told-run (Did session item ∷ run) =
+    let outs = outs_of session item (record_of session run) in
+    events_told-append (interactions_of run) (map Took outs)
+    ∙ ap (λ (xs : List PoolEvent). events_told (interactions_of run) ++ xs) (takes_tell_none outs)
+    ∙ append-nil (events_told (interactions_of run)) ∙ events_told-run run
+events_told-run (Observes round ∷ run) =
+    events_told-append (interactions_of run) (Told (Observe round) ∷ [])
+    ∙ ap (λ (xs : List PoolEvent). xs ++ event_of (Observe round) ∷ []) (events_told-run run)
+
+pub pool_from-append : (words : PoolWords) (xs ys : List PoolEvent) → pool_from words (xs ++ ys) ≡ pool_from (pool_from words xs) ys
+pool_from-append words [] ys = refl
+pool_from-append words (event ∷ xs) ys = pool_from-append (pool_step words event) xs ys
 
 -- A front of what passes in a run is a front of what passes in one that heard no more events.
 
@@ -140,6 +229,7 @@ next_no_event : {config : Config} {run : List Entry} {entry : Entry} (event : Ev
 next_no_event event (goes_by h n) e = cc
 next_no_event event (goes_answered h a) e = cc
 next_no_event event (goes_hearing quiet none u) e = cc
+next_no_event event (goes_observing quiet none u o) e = cc
 
 none_of_none : {A : Type 0} (xs ys : List A) → [] ≡ xs ++ ys → xs ≡ []
 none_of_none [] ys e = refl
@@ -188,13 +278,12 @@ module _ (config : Config) (done : List Interaction) where
     by_event (within between is behind) = inr (before between is)
     by_event (beyond between is behind) = by_beyond between is behind
 
-  -- what a session did is behind what was done, or in part
-  by_actions : (run : List Entry) (actions : List Action) (rest : List Interaction) → IsTold run
+  -- what a session did, or the words took in, is behind what was done, or in part
+  by_handed : (run : List Entry) (handed rest : List Interaction) → IsTold run → events_given handed ≡ []
       → ((between : List Interaction) → interactions_of run ≡ done ++ between → Cuts run)
-      → Split (interactions_of run) (map Took actions) done rest → Cuts run
-  by_actions run actions rest told before (within between is behind) = before between is
-  by_actions run actions rest told before (beyond between is behind) =
-      inl (all_heard run between rest (map Took actions) told is behind (takes_give_none actions))
+      → Split (interactions_of run) handed done rest → Cuts run
+  by_handed run handed rest told none before (within between is behind) = before between is
+  by_handed run handed rest told none before (beyond between is behind) = inl (all_heard run between rest handed told is behind none)
 
   cut : {run : List Entry} → IsRun config run → IsTold run → (rest : List Interaction) → interactions_of run ≡ done ++ rest → Cuts run
   cut starts told rest parted = inl (sym (ap events_given (none_of_none done rest parted)))
@@ -209,8 +298,12 @@ module _ (config : Config) (done : List Interaction) where
   cut (goes_on {run} {entry = Did session item} legal step) told rest parted =
       let outs = outs_of session item (record_of session run) in
       let told_before : IsTold run = sym (no_more session item run) ∙ told in
-      by_actions run outs rest told_before (λ between is. cut legal told_before between is)
+      by_handed run (map Took outs) rest told_before (takes_give_none outs) (λ between is. cut legal told_before between is)
       (split (interactions_of run) (map Took outs) done rest parted)
+  cut (goes_on {run} {entry = Observes round} legal step) told rest parted =
+      let told_before : IsTold run = sym (no_more_observed round run) ∙ told in
+      by_handed run (Told (Observe round) ∷ []) rest told_before refl (λ between is. cut legal told_before between is)
+      (split (interactions_of run) (Told (Observe round) ∷ []) done rest parted)
   cut (starves {run} {session} {number} {made} legal h once can its) told rest parted =
       cut legal (sym (no_more session (Starves made number) run) ∙ told) rest (sym (append-nil (interactions_of run)) ∙ parted)
 

@@ -1,5 +1,5 @@
 -- In the middle of an event.
-use Rattle.std.specs.Prelude.{◌≡◌, ℕ, Bool, true, not, ◌&&◌, List, [], ◌∷◌, ◌++◌, map, Some, false}
+use Rattle.std.specs.Prelude.{◌≡◌, ℕ, Bool, true, not, ◌&&◌, List, [], ◌∷◌, ◌++◌, map, Some, None, false}
 use Rattle.std.specs.BTreeMap.{get}
 use Rattle.std.specs.Ordering.{nat_cmp}
 use Rattle.rws_board.specs.declared.action.Action.{Action}
@@ -7,7 +7,7 @@ use Rattle.rws_board.specs.declared.event.Event.{Event}
 use Rattle.rws_board.specs.declared.interaction.Interaction.TheVariants.{Took}
 use Rattle.rws_board.specs.Boards.{given}
 use Rattle.rws_config.specs.declared.config.Config.{Config}
-use Rattle.rws_record.specs.Run.{Entry, IsRun, record_of, is_live, owner, last_link, greatest, hearer, untold, events_of}
+use Rattle.rws_record.specs.Run.{Entry, IsRun, record_of, is_live, owner, last_link, greatest, hearer, unobserved, untold, events_of}
 use Rattle.rws_record.specs.Values.{contains, is_over, is_starved, links}
 use Rattle.rws_session.specs.Kept.{Asking, Kept}
 use Rattle.rws_worker.specs.declared.worker.Worker.{Worker}
@@ -21,6 +21,7 @@ pub record InTurn (config : Config) (before : List Entry) (event : Event) (sessi
   pub legal : IsRun config now
   pub hears : hearer now ≡ Some session
   pub told : untold config now ≡ []
+  pub observed : unobserved config now ≡ None
   pub live : is_live (record_of session now) ≡ not (is_over (record_of session now))
   pub others : (other : ℕ) → (session ≡ other → ⊥) → SeatStands config other (get nat_cmp worker.sessions other) now
   pub fetched : (other : ℕ) (kept : Kept) → (session ≡ other → ⊥) → get nat_cmp worker.sessions other ≡ Some kept → kept.outs ≡ []

@@ -4,19 +4,20 @@ use Rattle.std.specs.BTreeMap.{get}
 use Rattle.std.specs.Ordering.{nat_cmp}
 use Rattle.rws_board.specs.declared.event.Event.{Event}
 use Rattle.rws_board.specs.declared.interaction.Interaction.{Interaction}
-use Rattle.rws_board.specs.declared.interaction.Interaction.TheVariants.{Took}
+use Rattle.rws_board.specs.declared.interaction.Interaction.TheVariants.{Gave, Took, Told}
 use Rattle.rws_board.specs.Boards.{given}
+use Rattle.rws_pool.specs.declared.events.PoolCall.TheVariants.{Observe}
 use Rattle.rws_config.specs.declared.config.Config.{Config}
 use Rattle.rws_record.specs.Item.{Item}
 use Rattle.rws_record.specs.Outputs.{outs_of}
 use Rattle.rws_record.specs.Run.{Entry, IsRun, next_entry, record_of, is_live, owner, last_link, greatest, events_of}
-use Rattle.rws_record.specs.Run.Entry.{Came, Heard, Did}
+use Rattle.rws_record.specs.Run.Entry.{Came, Heard, Did, Observes}
 use Rattle.rws_record.specs.Values.{links, contains}
 use Rattle.rws_session.specs.Kept.{Kept, Stands}
 use Rattle.rws_session.specs.Turning.{heard}
 use Rattle.rws_session.specs.declared.input.SessionInput.{SessionInput}
 use Rattle.rws_worker.specs.declared.worker.Worker.{Worker}
-use Rattle.rws_worker.specs.Stepping.{actions_ahead, is_going}
+use Rattle.rws_worker.specs.Stepping.{done_ahead, is_going}
 
 -- what passes between a worker and its board in a run, oldest first
 abbrev pub interactions_of : List Entry → List Interaction
@@ -24,6 +25,14 @@ interactions_of [] = []
 interactions_of (Came event ∷ run) = interactions_of run ++ given event
 interactions_of (Heard session item ∷ run) = interactions_of run
 interactions_of (Did session item ∷ run) = interactions_of run ++ map Took (outs_of session item (record_of session run))
+interactions_of (Observes round ∷ run) = interactions_of run ++ Told (Observe round) ∷ []
+
+-- all but the events: what is done outside
+abbrev pub without_gave : List Interaction → List Interaction
+without_gave [] = []
+without_gave (Gave event ∷ interactions) = without_gave interactions
+without_gave (Took action ∷ interactions) = Took action ∷ without_gave interactions
+without_gave (Told call ∷ interactions) = Told call ∷ without_gave interactions
 
 -- a session that goes on: what is kept of it stands for its record
 pub record IsSeated (config : Config) (number : ℕ) (session : Kept) (run : List Entry) : Type 0 where
@@ -61,7 +70,7 @@ pub record Advances (config : Config) (run : List Entry) (event : Event) (worker
   pub now : List Entry
   pub stands : WorkerStands config worker now
   pub heard : events_of now ≡ events_of run ++ event ∷ []
-  pub did : interactions_of now ≡ interactions_of run ++ (given event ++ map Took (actions_ahead worker))
+  pub did : interactions_of now ≡ interactions_of run ++ (given event ++ done_ahead worker)
 
 -- what an input tells a session that goes on
 abbrev pub told_item : ℕ → Option Item → List (ℕ × Item)

@@ -6,12 +6,17 @@ use Rattle.rws_wire.specs.declared.close_reason.CloseReason.TheVariants.{Memory}
 use Rattle.rws_wire.specs.declared.drop_cause.DropCause.TheVariants.{End}
 use Rattle.rws_board.specs.declared.action.Action.{Action}
 use Rattle.rws_board.specs.declared.action.Action.TheVariants.{ToClient, Close, Drop}
+use Rattle.rws_board.specs.declared.interaction.Interaction.{Interaction}
+use Rattle.rws_board.specs.declared.interaction.Interaction.TheVariants.{Took, Told}
+use Rattle.rws_pool.specs.declared.events.PoolCall.{PoolCall}
+use Rattle.rws_pool.specs.declared.events.PoolCall.TheVariants.{Observe}
+use Rattle.rws_pool.specs.declared.words.Round.{Round}
 use Rattle.rws_session.specs.State.{numbered}
 use Rattle.rws_session.specs.Kept.{Kept, numbers}
 use Rattle.rws_worker.specs.declared.ahead.Ahead.{Ahead}
 use Rattle.rws_worker.specs.declared.ahead.Ahead.TheVariants.{Nothing, Going, Over, Starved, Unmade}
 use Rattle.rws_worker.specs.declared.step.Step.{Step}
-use Rattle.rws_worker.specs.declared.step.Step.TheVariants.{Idle, Act, Broken}
+use Rattle.rws_worker.specs.declared.step.Step.TheVariants.{Idle, Act, Call, Broken}
 use Rattle.rws_worker.specs.declared.worker.Worker.{Worker}
 
 -- Where the outputs of the last event are
@@ -64,6 +69,11 @@ links_ahead _ = []
 
 -- The steps that are still to be made
 
+-- a round that is to be taken in
+abbrev pub calls_by : Option Round → List Step
+calls_by (Some round) = Call (Observe round) ∷ []
+calls_by None = []
+
 abbrev pub outs_ahead : Worker → List Action
 outs_ahead worker = outs_by (going_in worker.ahead) (held_outs worker.ahead) worker.sessions
 
@@ -85,9 +95,9 @@ endings_by broken closing farewell links = broken_by broken farewell ++ (closes_
 abbrev pub endings : Worker → List Step
 endings worker = endings_by worker.broken worker.closing (farewell_ahead worker.ahead) (links_ahead worker.ahead)
 
--- all that sessions gave out comes before
+-- A round is taken in first; behind all that sessions gave out comes how one of them ends.
 abbrev pub steps_ahead : Worker → List Step
-steps_ahead worker = map Act (outs_ahead worker) ++ endings worker
+steps_ahead worker = calls_by worker.observed ++ (map Act (outs_ahead worker) ++ endings worker)
 
 -- What is done for them
 
@@ -96,17 +106,18 @@ abbrev pub told_by : ℕ → List ℕ → List Action
 told_by session [] = []
 told_by session (byte ∷ bytes) = ToClient session (byte ∷ bytes) ∷ []
 
-abbrev pub done_for : Step → List Action
+abbrev pub done_for : Step → List Interaction
 done_for Idle = []
-done_for (Act action) = action ∷ []
-done_for (Broken session farewell) = told_by session farewell
+done_for (Act action) = Took action ∷ []
+done_for (Call call) = Told call ∷ []
+done_for (Broken session farewell) = map Took (told_by session farewell)
 
-abbrev pub all_done_for : List Step → List Action
+abbrev pub all_done_for : List Step → List Interaction
 all_done_for [] = []
 all_done_for (step ∷ others) = done_for step ++ all_done_for others
 
-abbrev pub actions_ahead : Worker → List Action
-actions_ahead worker = all_done_for (steps_ahead worker)
+abbrev pub done_ahead : Worker → List Interaction
+done_ahead worker = all_done_for (steps_ahead worker)
 
 -- Nothing is ahead
 
@@ -114,9 +125,11 @@ pub record IsIdle (worker : Worker) : Type 0 where
   pub nothing : worker.ahead ≡ Nothing
   pub unbroken : worker.broken ≡ None
   pub unclosed : worker.closing ≡ None
+  pub unobserved : worker.observed ≡ None
 
 -- the first of the steps ahead, which then is made; idle exactly where there is none
 abbrev pub Steps : Step → Worker → Worker → Type 0
 Steps Idle old new = (steps_ahead old ≡ []) × IsIdle new
 Steps (Act action) old new = steps_ahead old ≡ Act action ∷ steps_ahead new
+Steps (Call call) old new = steps_ahead old ≡ Call call ∷ steps_ahead new
 Steps (Broken session farewell) old new = steps_ahead old ≡ Broken session farewell ∷ steps_ahead new

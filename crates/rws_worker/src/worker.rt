@@ -10,6 +10,7 @@ ghost use Rattle.rws_worker.specs.Standing.{Advances, WorkerStands};
 ghost use Rattle.rws_worker.specs.Stepping.{IsIdle, Steps, endings, outs_ahead};
 
 mod beginning;
+mod observing;
 mod settling;
 mod stepping;
 mod telling;
@@ -18,6 +19,7 @@ use crate::Step;
 use crate::ahead::Ahead;
 use rws_board::{Action, Event};
 use rws_config::Config;
+use rws_pool::{PoolCall, Round};
 use rws_session::{Session, SessionInput};
 use std::alloc::Global;
 use std::collections::BTreeMap;
@@ -38,6 +40,8 @@ pub struct Worker {
     broken: Option<u32>,
     /// and until it is closed.
     closing: Option<u32>,
+    /// A round of the monitor that is still to be taken in.
+    observed: Option<Round>,
 }
 
 impl Worker {
@@ -56,6 +60,7 @@ impl Worker {
             ahead: Ahead::Nothing,
             broken: None,
             closing: None,
+            observed: None,
         }
     }
 
@@ -90,6 +95,8 @@ impl Worker {
                 config,
             ),
             Event::LinkGone { link } => self.tell_on(link, SessionInput::LinkGone { link }, config),
+            Event::Observed { round } => self.observe(round, config),
+            Event::Clock { now_ms: _ } => {}
             Event::End => {}
         }
     }
@@ -101,6 +108,9 @@ impl Worker {
             → WorkerStands config self.new run }
         ensures links { self.new.last_link ≡ self.old.last_link }
     {
+        if let Some(round) = self.next_round() {
+            return Step::Call(PoolCall::Observe { round });
+        }
         if let Some(action) = self.next_out() {
             self.release_dropped(&action);
             return Step::Act(action);
