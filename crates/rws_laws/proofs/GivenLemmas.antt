@@ -29,8 +29,9 @@ use Rattle.rws_record.specs.Item.Item.{LinkReady, Comes, Takes, Puts}
 use Rattle.rws_record.specs.Item.Purpose.{Prepares, Asks}
 use Rattle.rws_record.specs.Item.Put.{Hands, Tells, Routes, Opens, LogsInto, Sends, Drops, Closes}
 use Rattle.rws_record.specs.Item.Tell.{Passes, Owns, Refuses}
-use Rattle.rws_record.specs.Requests.{request_of}
-use Rattle.rws_record.specs.Judging.{judged, judged_by, refusal_of}
+use Rattle.rws_record.specs.Requests.{arguments_of, class_by, request_of}
+use Rattle.rws_class.specs.Classes.{class_of}
+use Rattle.rws_record.specs.Judging.{is_forbidden, judged, judged_as, query_judged}
 use Rattle.rws_record.specs.Values.{fronted, links, kept_on, asked_on, awaited, exchange, is_up, prepared_by, kind_of, linked, prepared_handle, sent_for, pending, sent_on, reply_number, told, told_from, is_over}
 use Rattle.rws_record.specs.Rules.{after_loss, after_answer, farewells, owed}
 use Rattle.rws_laws.specs.Client.{Took, begins_with}
@@ -290,19 +291,27 @@ module _ (config : Config) (past : List Item) (sound : Sound config past) where
 
   module _ (payload rest : Payload) (number : ℕ) (p : pending past ≡ None) (c : (fronted config past).phase ≡ Commands) where
     abbrev it : Request → Judged
-    it request = judged_by (refusal_of request) request payload number
+    it request = judged_as request (class_by request payload) payload number
 
     took_it : (request : Request) → request_of payload ≡ request
         → begins_with config (fronted config past) 0 ≡ Whole payload number rest
         → Took config payload number (Takes (it request) number ∷ past)
     took_it request r f = subst (λ (its : Judged). Took config payload number (Takes its number ∷ past)) (ap it r) (took p c f)
 
+    -- a query: its text is forbidden, or it goes to a server
+    query_asked : (forbidden : Bool) → it requests.Query ≡ query_judged forbidden payload number
+        → request_of payload ≡ requests.Query → Took config payload number (Takes (query_judged forbidden payload number) number ∷ past)
+        → Asking config (Takes (query_judged forbidden payload number) number ∷ past)
+    query_asked true its r f = λ command e. absurd cc
+    query_asked false its r f = λ command e.
+        subst (λ (its : Command). IsAsked config its (Takes (query_judged false payload number) number ∷ past)) (same_some _ command e)
+        (record { asked = here f (ap it r ∙ its); counts = refl })
+
     now_asked : (request : Request) → request_of payload ≡ request
         → begins_with config (fronted config past) 0 ≡ Whole payload number rest
         → Asking config (Takes (it request) number ∷ past)
-    now_asked requests.Query r f = λ command e.
-        subst (λ (its : Command). IsAsked config its (Takes (it requests.Query) number ∷ past)) (same_some _ command e)
-        (record { asked = here (took_it requests.Query r f) (ap it r); counts = refl })
+    now_asked requests.Query r f =
+        query_asked (is_forbidden (class_of (arguments_of payload))) refl r (took_it requests.Query r f)
     now_asked requests.FieldList r f = λ command e.
         subst (λ (its : Command). IsAsked config its (Takes (it requests.FieldList) number ∷ past)) (same_some _ command e)
         (record { asked = here (took_it requests.FieldList r f) (ap it r); counts = refl })

@@ -34,8 +34,11 @@ use Rattle.rws_record.specs.Item.Item.{TurnsAway, Comes, Connects, Puts}
 use Rattle.rws_record.specs.Item.Purpose.{Prepares, Asks}
 use Rattle.rws_record.specs.Item.Put.{Hands, Tells, Drops, Closes}
 use Rattle.rws_record.specs.Item.Tell.{Passes}
-use Rattle.rws_record.specs.Requests.{request_of}
-use Rattle.rws_record.specs.Judging.{judged_by, refusal_of}
+use Rattle.rws_class.specs.Classes.{class_of}
+use Rattle.rws_class.specs.declared.class.Class.{Class}
+use Rattle.rws_class.specs.declared.class.Class.TheVariants.{Read, PrimaryRead, Write, Session, Begin, BeginReadOnly, Commit, Rollback, AutocommitOn, AutocommitOff, TrxLocal, Ddl, Refused, Other}
+use Rattle.rws_record.specs.Judging.{is_forbidden, judged_as, query_judged}
+use Rattle.rws_record.specs.Requests.{arguments_of, class_by, request_of}
 use Rattle.rws_record.specs.Values.{fronted, links, kept_on, asked_on, awaited, exchange, linked, prepared_handle, link_held, pending, sent_on, reply_number, told, told_from, is_over}
 use Rattle.rws_record.specs.Rules.{is_link, after_loss, after_loss_by, assigned_by, loss_by, after_command, after_connecting, after_flood, after_preparing, after_turning_away, after_answer, form_of, unasked}
 use Rattle.rws_record.proofs.LinkedLemmas.{after_part_is}
@@ -144,14 +147,38 @@ module _ (config : Config) (now : List Item) (link : ℕ) (sent : Sent now) (tel
 
 -- A command is answered, whatever it is
 
+forbidden_is : (class : Class) → is_forbidden class ≡ true → class ≡ Refused
+forbidden_is Refused e = refl
+forbidden_is Read e = absurd cc
+forbidden_is PrimaryRead e = absurd cc
+forbidden_is Write e = absurd cc
+forbidden_is Session e = absurd cc
+forbidden_is Begin e = absurd cc
+forbidden_is BeginReadOnly e = absurd cc
+forbidden_is Commit e = absurd cc
+forbidden_is Rollback e = absurd cc
+forbidden_is AutocommitOn e = absurd cc
+forbidden_is AutocommitOff e = absurd cc
+forbidden_is TrxLocal e = absurd cc
+forbidden_is Ddl e = absurd cc
+forbidden_is Other e = absurd cc
+
+query_caused : (config : Config) (payload : Payload) (number : ℕ) (past : List Item) (forbidden : Bool)
+    → is_forbidden (class_of (arguments_of payload)) ≡ forbidden → request_of payload ≡ requests.Query
+    → Took config payload number past → Caused config (after_command (query_judged forbidden payload number) number) past
+query_caused config payload number past true f r taken =
+    tells (payload, taken, inr (r, forbidden_is (class_of (arguments_of payload)) f)) nothing
+query_caused config payload number past false f r taken = nothing
+
 pub command_caused : (config : Config) (payload : Payload) (number : ℕ) (past : List Item) (request : Request)
     → request_of payload ≡ request → Took config payload number past
-    → Caused config (after_command (judged_by (refusal_of request) request payload number) number) past
+    → Caused config (after_command (judged_as request (class_by request payload) payload number) number) past
 command_caused config payload number past requests.Quit r taken = closes (payload, number, taken, r)
 command_caused config payload number past requests.Ping r taken = tells (payload, taken, r, refl) nothing
-command_caused config payload number past requests.Query r taken = nothing
+command_caused config payload number past requests.Query r taken =
+    query_caused config payload number past (is_forbidden (class_of (arguments_of payload))) refl r taken
 command_caused config payload number past requests.FieldList r taken = nothing
-command_caused config payload number past requests.Unsupported r taken = tells (payload, taken, r) nothing
+command_caused config payload number past requests.Unsupported r taken = tells (payload, taken, inl r) nothing
 command_caused config payload number past requests.Unknown r taken = tells (payload, taken, r) nothing
 
 pub flood_caused : (config : Config) (bytes : ℕ) (past : List Item) → Flooded config bytes past → Caused config (after_flood bytes) past

@@ -10,6 +10,8 @@ use Rattle.rws_wire.specs.declared.close_reason.CloseReason.TheVariants as reaso
 use Rattle.rws_wire.specs.declared.drop_cause.DropCause.TheVariants.{BadWire, BadReply, Unasked, Greeting, Plugin, Login as LoginFails, End}
 use Rattle.rws_msgs.specs.declared.status.TheConstants.{AUTOCOMMIT}
 use Rattle.rws_native.specs.declared.login.Login.{Login}
+use Rattle.rws_class.specs.Classes.{class_of}
+use Rattle.rws_class.specs.declared.class.Class.TheVariants.{Refused}
 use Rattle.rws_reply.specs.declared.kind.Kind.TheVariants.{Query as QueryReply}
 use Rattle.rws_reply.specs.Replies.{Payload, IsReply, Begins}
 use Rattle.rws_reply.specs.Tracking.{progress, role}
@@ -27,7 +29,7 @@ use Rattle.rws_record.specs.Item.Item.{Accepted, TurnsAway, Began, LinkReady, Li
 use Rattle.rws_record.specs.Item.Put.{Hands, Tells, Routes, Opens, LogsInto, Sends, Drops, Closes}
 use Rattle.rws_record.specs.Item.Tell.{Passes, Owns, Refuses}
 use Rattle.rws_record.specs.Item.Purpose.{Prepares, Asks}
-use Rattle.rws_record.specs.Requests.{request_of}
+use Rattle.rws_record.specs.Requests.{arguments_of, request_of}
 use Rattle.rws_record.specs.Values.{fronted, login_of, links, kept_on, linked, is_up, asked_on, exchange, prepared_handle, link_held, pending, sent_on, told, told_from, is_over, is_starved}
 use Rattle.rws_record.specs.Rules.{counts_as_sent}
 use Rattle.rws_record.specs.Record.{CanBeMade, want_number}
@@ -89,8 +91,11 @@ IsCaused config (Tells number (Owns status)) past =
     (payload : Payload) × Took config payload number past × (request_of payload ≡ requests.Ping) × (status ≡ AUTOCOMMIT)
 IsCaused config (Tells number (Refuses UnknownCommand)) past =
     (payload : Payload) × Took config payload number past × (request_of payload ≡ requests.Unknown)
+-- a command that the proxy doesn't take, or a text that sets what mayn't be set
 IsCaused config (Tells number (Refuses NotSupported)) past =
-    (payload : Payload) × Took config payload number past × (request_of payload ≡ requests.Unsupported)
+    (payload : Payload) × Took config payload number past
+    × ((request_of payload ≡ requests.Unsupported)
+    ⊎ ((request_of payload ≡ requests.Query) × (class_of (arguments_of payload) ≡ Refused)))
 -- a client that connected was turned away, and nothing more stands in its record
 IsCaused config (Tells number (Refuses TooManyConnections)) past = (past ≡ TurnsAway true ∷ []) × (number ≡ 0)
 IsCaused config (Tells number (Refuses CommandTooLarge)) past = (bytes : ℕ) × Flooded config bytes past × (number ≡ 1)

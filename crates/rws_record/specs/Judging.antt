@@ -1,11 +1,13 @@
 -- What a command of the client is taken for.
 use Rattle.std.specs.Prelude.{ℕ, Bool, true, false, List, Option, Some, None, if◌then◌else◌}
+use Rattle.rws_class.specs.declared.class.Class.{Class}
+use Rattle.rws_class.specs.declared.class.Class.TheVariants.{Refused}
 use Rattle.rws_reply.specs.declared.kind.Kind.TheVariants.{Query as QueryReply, FieldList as FieldListReply}
 use Rattle.rws_record.specs.declared.proxy_error.ProxyError.{ProxyError}
 use Rattle.rws_record.specs.declared.proxy_error.ProxyError.TheVariants.{UnknownCommand, NotSupported, UnknownStatement, BadExecute, TooManyStatements, NotInReadOnly}
 use Rattle.rws_record.specs.declared.request.Request.{Request}
 use Rattle.rws_record.specs.declared.request.Request.TheVariants.{Quit, Ping, Query, FieldList, Unsupported, Unknown}
-use Rattle.rws_record.specs.Requests.{request_of}
+use Rattle.rws_record.specs.Requests.{class_by, request_of}
 use Rattle.rws_record.specs.Item.{Judged}
 use Rattle.rws_record.specs.Item.Judged.{Leaves, Pings, IsRefused, Serves}
 
@@ -38,8 +40,13 @@ abbrev pub is_unsupported : Request → Bool
 is_unsupported Unsupported = true
 is_unsupported _ = false
 
--- Prepared statements, the classes of texts and transactions aren't looked at yet: no command names a statement, sets
--- what it mayn't, or stands in a read-only transaction.
+-- a text that sets what replication or the proxy stands on
+abbrev pub is_forbidden : Class → Bool
+is_forbidden Refused = true
+is_forbidden _ = false
+
+-- Prepared statements and transactions aren't looked at yet: no command names a statement, or stands in a read-only
+-- transaction.
 abbrev pub names_no_statement : Bool
 names_no_statement = false
 
@@ -52,16 +59,13 @@ is_malformed = false
 abbrev pub has_too_many_statements : Bool
 has_too_many_statements = false
 
-abbrev pub is_forbidden : Bool
-is_forbidden = false
-
 abbrev pub changes_in_read_only : Bool
 changes_in_read_only = false
 
-abbrev pub refusal_of : Request → Option ProxyError
-refusal_of request =
+abbrev pub refusal_of : Request → Class → Option ProxyError
+refusal_of request class =
     refusal_by (is_unknown request) (is_unsupported request) names_no_statement asks_for_cursor is_malformed
-    has_too_many_statements is_forbidden changes_in_read_only
+    has_too_many_statements (is_forbidden class) changes_in_read_only
 
 -- what a command is taken for that nothing refuses
 abbrev pub accepted_as : Request → List ℕ → ℕ → Judged
@@ -76,6 +80,15 @@ abbrev pub judged_by : Option ProxyError → Request → List ℕ → ℕ → Ju
 judged_by (Some error) request payload number = IsRefused error
 judged_by None request payload number = accepted_as request payload number
 
+-- the same of a request of this class
+abbrev pub judged_as : Request → Class → List ℕ → ℕ → Judged
+judged_as request class payload number = judged_by (refusal_of request class) request payload number
+
+-- a query of which it is known whether its text is forbidden
+abbrev pub query_judged : (forbidden : Bool) → List ℕ → ℕ → Judged
+query_judged forbidden payload number =
+    judged_by (refusal_by false false false false false false forbidden false) Query payload number
+
 -- a command of these bytes, whose reply begins with this number
 abbrev pub judged : List ℕ → ℕ → Judged
-judged payload number = judged_by (refusal_of (request_of payload)) (request_of payload) payload number
+judged payload number = judged_as (request_of payload) (class_by (request_of payload) payload) payload number

@@ -2,6 +2,9 @@
 -- statements)" of MariaDB's documentation).
 use Rattle.std.specs.Prelude.{ℕ, List, [], ◌∷◌, ◌==◌, if◌then◌else◌}
 use Rattle.rws_msgs.specs.declared.command.TheConstants.{COM_QUIT, COM_QUERY, COM_FIELD_LIST, COM_PING, COM_SET_OPTION, COM_STMT_FETCH, COM_RESET_CONNECTION}
+use Rattle.rws_class.specs.Classes.{class_of}
+use Rattle.rws_class.specs.declared.class.Class.{Class}
+use Rattle.rws_class.specs.declared.class.Class.TheVariants.{PrimaryRead, Other}
 use Rattle.rws_record.specs.declared.request.Request.{Request}
 use Rattle.rws_record.specs.declared.request.Request.TheVariants.{Quit, Ping, Query, FieldList, Unsupported, Unknown}
 
@@ -20,3 +23,15 @@ request_by code =
 abbrev pub request_of : List ℕ → Request
 request_of [] = Unknown
 request_of (code ∷ arguments) = request_by code
+
+-- what stands behind the command byte: of a query its text
+abbrev pub arguments_of : List ℕ → List ℕ
+arguments_of [] = []
+arguments_of (code ∷ arguments) = arguments
+
+-- The class of what a command does. A query has that of its text. A command that no server is to answer counts as one of
+-- which nothing is known.
+abbrev pub class_by : Request → List ℕ → Class
+class_by Query payload = class_of (arguments_of payload)
+class_by FieldList payload = PrimaryRead
+class_by _ payload = Other

@@ -1,7 +1,8 @@
 //! Which command a payload of a client is ("Text protocol" and "Utility commands" of the protocol).
 ghost use Rattle.std.specs.Prelude.{◌≡◌};
-ghost use Rattle.rws_record.specs.Requests.{request_by, request_of};
+ghost use Rattle.rws_record.specs.Requests.{arguments_of, class_by, request_by, request_of};
 
+use rws_class::{Class, classify};
 use rws_msgs::command::{
     COM_FIELD_LIST, COM_PING, COM_QUERY, COM_QUIT, COM_RESET_CONNECTION, COM_SET_OPTION,
     COM_STMT_FETCH,
@@ -35,6 +36,18 @@ impl Request {
         }
     }
 
+    /// The class of a command of these bytes: of a query that of its text. A command that no server is to answer counts as
+    /// [`Class::Other`].
+    pub fn class(self, payload: &[u8]) -> Class
+        ensures { result ≡ class_by self payload.now }
+    {
+        match self {
+            Request::Query => classify(arguments(payload)),
+            Request::FieldList => Class::PrimaryRead,
+            Request::Quit | Request::Ping | Request::Unsupported | Request::Unknown => Class::Other,
+        }
+    }
+
     /// The command whose first byte this is.
     fn with_code(code: u8) -> Request
         ensures { result ≡ request_by code }
@@ -47,5 +60,15 @@ impl Request {
             COM_SET_OPTION | COM_STMT_FETCH | COM_RESET_CONNECTION => Request::Unsupported,
             _ => Request::Unknown,
         }
+    }
+}
+
+/// What stands behind the command byte.
+fn arguments(payload: &[u8]) -> &[u8]
+    ensures { result.now ≡ arguments_of payload.now }
+{
+    match payload {
+        [_, arguments @ ..] => arguments,
+        [] => payload,
     }
 }

@@ -176,15 +176,16 @@ abbrev pub pending_by : Judged → Option Command → Option Command
 pending_by (Serves command) before = Some command
 pending_by _ before = before
 
--- a command that was taken for this is taken up; its reply begins with this number
-abbrev pub takes : Judged → ℕ → State → State
-takes judgement number s = record s {
+-- a command that was taken for this waits for a server, or its answer is owed
+abbrev pub answers : Judged → ℕ → State → State
+answers judgement number s = record s {
   pending = pending_by judgement s.pending;
-  sent_on = None;
-  told_from = None;
-  reply_number = number;
   owed = map erased (after_command judgement number) ++ s.owed;
 }
+
+-- it is taken up; its reply begins with this number
+abbrev pub takes : Judged → ℕ → State → State
+takes judgement number s = answers judgement number (record s { sent_on = None; told_from = None; reply_number = number })
 
 -- the client's side said something; this is where it stands then
 abbrev pub stands_at : Fronting → State → State

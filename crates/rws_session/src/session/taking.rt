@@ -4,14 +4,17 @@ ghost use Rattle.rws_front.specs.Connection.{step_of};
 ghost use Rattle.rws_front.specs.Names.{IsNamed};
 ghost use Rattle.rws_record.specs.Item.{Item};
 ghost use Rattle.rws_record.specs.Item.Put.{Closes, Hands};
-ghost use Rattle.rws_record.specs.Judging.{judged};
+ghost use Rattle.rws_record.specs.Judging.{is_forbidden, judged, query_judged};
+ghost use Rattle.rws_record.specs.Requests.{class_by};
+ghost use Rattle.rws_record.specs.declared.request.Request.TheVariants.{Query};
 ghost use Rattle.rws_record.specs.Rules.{due_take, owed};
 ghost use Rattle.rws_session.specs.Kept.{Holds, Is};
-ghost use Rattle.rws_session.specs.Steps.{TakesSaid, Tries, owes, recounted, takes};
+ghost use Rattle.rws_session.specs.Steps.{TakesSaid, Tries, answers, owes, recounted, takes};
 
 use crate::login::LinkLogin;
 use crate::owing::Out;
 use crate::session::Session;
+use rws_class::Class;
 use rws_config::Config;
 use rws_front::FrontStep;
 use rws_msgs::status::AUTOCOMMIT;
@@ -106,10 +109,7 @@ impl Session {
                 number,
                 status: OWN_STATUS,
             }),
-            Request::Query => {
-                self.serve(Kind::Query, payload, number);
-                Ok(())
-            }
+            Request::Query => self.take_query(payload, number),
             Request::FieldList => {
                 self.serve(Kind::FieldList, payload, number);
                 Ok(())
@@ -123,6 +123,21 @@ impl Session {
                 error: ProxyError::UnknownCommand,
             }),
         }
+    }
+
+    /// Takes up a query: a text that may not be sent is refused, and any other is for a server.
+    fn take_query(&mut self, payload: Text, number: u8) -> Result<(), AllocError>
+        ensures ok { OnOk result (self.new ≡ record self.old { state = answers (query_judged (is_forbidden (class_by Query payload)) payload number) number self.old.state }) }
+        ensures err { OnErr result (Holds self.old self.new) }
+    {
+        if is_forbidden(Request::Query.class(payload.as_slice())) {
+            return self.owe(Out::Refuse {
+                number,
+                error: ProxyError::NotSupported,
+            });
+        }
+        self.serve(Kind::Query, payload, number);
+        Ok(())
     }
 
     /// The client is told nothing yet of a new command's reply.
@@ -148,4 +163,11 @@ impl Session {
             number,
         });
     }
+}
+
+/// A text of this class isn't sent to any server.
+fn is_forbidden(class: Class) -> bool
+    ensures { result ≡ is_forbidden class }
+{
+    matches!(class, Class::Refused)
 }
