@@ -36,7 +36,7 @@ use Rattle.rws_record.specs.Item.Put.{Hands, Tells, Drops, Closes}
 use Rattle.rws_record.specs.Item.Tell.{Passes}
 use Rattle.rws_class.specs.Classes.{class_of}
 use Rattle.rws_class.specs.declared.class.Class.{Class}
-use Rattle.rws_class.specs.declared.class.Class.TheVariants.{Read, PrimaryRead, Write, Session, Begin, BeginReadOnly, Commit, Rollback, AutocommitOn, AutocommitOff, TrxLocal, Ddl, Refused, Other}
+use Rattle.rws_class.specs.declared.class.Class.TheVariants.{Read, PrimaryRead, Write, Session, Begin, BeginReadOnly, Commit, Rollback, AutocommitOn, AutocommitOff, TrxLocal, Ddl, Refused as Forbidden, Other}
 use Rattle.rws_record.specs.Judging.{is_forbidden, judged_as, query_judged}
 use Rattle.rws_record.specs.Requests.{arguments_of, class_by, request_of}
 use Rattle.rws_record.specs.Values.{fronted, links, kept_on, asked_on, awaited, exchange, linked, prepared_handle, link_held, pending, sent_on, reply_number, told, told_from, is_over}
@@ -147,8 +147,8 @@ module _ (config : Config) (now : List Item) (link : ℕ) (sent : Sent now) (tel
 
 -- A command is answered, whatever it is
 
-forbidden_is : (class : Class) → is_forbidden class ≡ true → class ≡ Refused
-forbidden_is Refused e = refl
+forbidden_is : (class : Class) → is_forbidden class ≡ true → class ≡ Forbidden
+forbidden_is Forbidden e = refl
 forbidden_is Read e = absurd cc
 forbidden_is PrimaryRead e = absurd cc
 forbidden_is Write e = absurd cc
