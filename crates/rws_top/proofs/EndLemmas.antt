@@ -3,19 +3,18 @@ use Rattle.std.proofs.Common.{◌≡◌, ℕ, ◌+◌, ◌^◌, ◌≤◌, inr, 
 use Rattle.std.proofs.KnownBytes.{Appends-nil}
 use Rattle.std.proofs.lemmas.List.{append-nil, take-append-drop}
 use Rattle.std.specs.Io.KnownBytes.{Appends}
-use Rattle.rws_board.specs.Boards.{events_given, actions_taken}
+use Rattle.rws_board.specs.Boards.{events_given}
 use Rattle.rws_board.specs.Boards.Standing.{Going, Ended as AtEnd, NextFailed}
 use Rattle.rws_board.specs.Faults.{Rises}
-use Rattle.rws_board.specs.declared.action.Action.{Action}
 use Rattle.rws_board.specs.declared.board_fault.BoardFault.TheVariants as faults
 use Rattle.rws_board.specs.declared.event.Event.{Event}
 use Rattle.rws_board.specs.declared.interaction.Interaction.{Interaction}
 use Rattle.rws_board.specs.declared.interaction.Interaction.TheVariants.{Gave}
-use Rattle.rws_board.proofs.JoinLemmas.{events_given-append, actions_taken-append}
+use Rattle.rws_board.proofs.JoinLemmas.{events_given-append}
 use Rattle.rws_config.specs.declared.config.Config.{Config}
 use Rattle.rws_record.specs.Run.{Entry, events_of, done_in}
 use Rattle.rws_record.specs.Run.IsRun.{starts}
-use Rattle.rws_trace.specs.Printing.{text_of}
+use Rattle.rws_trace.specs.Printing.{text_of, text_of_one}
 use Rattle.rws_trace.specs.Reader.{ReaderState, fresh}
 use Rattle.rws_trace.specs.ScriptBoards.{ScriptBoardState, ScriptDid, FirstEvents, Goes, Ends, InputFails, IsCutShort}
 use Rattle.rws_trace.specs.declared.side.Side.{Side}
@@ -24,18 +23,22 @@ use Rattle.rws_worker.specs.Standing.{interactions_of}
 use Rattle.rws_worker.specs.Working.{IsResting, IsFront, Works}
 use Rattle.rws_worker.specs.Working.Works.{ended, unread as untold, untaken, too_many as full, starved_reading, starved_acting}
 use Rattle.rws_worker.specs.declared.work.WorkEnd.{WorkEnd}
-use Rattle.rws_worker.proofs.InteractionLemmas.{IsCutAt, actions_taken-run, cut_at}
+use Rattle.rws_worker.proofs.InteractionLemmas.{IsCutAt, cut_at, flat_map-without_gave, without_gave-run}
 use Rattle.rws_top.specs.Trace.{AnswersTrace, HasHeardAll, IsBegun, IsCut, IsScript, settings_of}
 use Rattle.rws_top.specs.Trace.Traces.{unread, unwritten, out_of_memory, too_many}
 use Rattle.rws_top.specs.Tracing.{EndsSo, IsClosing, board_over, end_of, failing_end}
 use Rattle.rws_top.specs.declared.trace.TraceEnd.{TraceEnd}
 use Rattle.rws_top.proofs.ScriptLemmas.{StartsWith, starts_with, unread_yet, reads_first, part_first, out_script, heard_all}
 
+-- what passes in a run has the text of what the run did outside
+text_of-run : (run : List Entry) → text_of (interactions_of run) ≡ text_of (done_in run)
+text_of-run run = sym (flat_map-without_gave text_of_one (λ event. refl) (interactions_of run)) ∙ ap text_of (without_gave-run run)
+
 -- a front of the lines of what a run did, whose first part this is
-front_of_lines : (whole front behind : List Action) (count : ℕ) → whole ≡ front ++ behind
-    → text_of whole ≡ take count (text_of front) ++ (drop count (text_of front) ++ text_of behind)
-front_of_lines whole front behind count parted =
-    ap text_of parted ∙ text_of-append front behind
+front_of_lines : (run : List Entry) (front behind : List Interaction) (count : ℕ) → interactions_of run ≡ front ++ behind
+    → text_of (done_in run) ≡ take count (text_of front) ++ (drop count (text_of front) ++ text_of behind)
+front_of_lines run front behind count parted =
+    sym (text_of-run run) ∙ ap text_of parted ∙ text_of-append front behind
     ∙ ap (λ (bytes : List ℕ). bytes ++ text_of behind) (sym (take-append-drop count (text_of front)))
     ∙ append_assoc (take count (text_of front)) (drop count (text_of front)) (text_of behind)
 
@@ -63,9 +66,8 @@ module _ (config : Config) (before taken : Option (List ℕ)) (input output : �
   }
 
   -- all lines of the run were put
-  all_put : (run : List Entry) → Appends taken new.taken (text_of (actions_taken (interactions_of run)))
-      → Appends taken new.taken (text_of (done_in run))
-  all_put run put = subst (λ (actions : List Action). Appends taken new.taken (text_of actions)) (actions_taken-run run) put
+  all_put : (run : List Entry) → Appends taken new.taken (text_of (interactions_of run)) → Appends taken new.taken (text_of (done_in run))
+  all_put run put = subst (λ (bytes : List ℕ). Appends taken new.taken bytes) (text_of-run run) put
 
   closing : (run : List Entry) → IsResting config run → ScriptDid start new (interactions_of run) AtEnd
       → IsClosing config before new.left taken new.taken new.reader.place.events new.reader.place.bad_line
@@ -105,7 +107,7 @@ module _ (config : Config) (before taken : Option (List ℕ)) (input output : �
 
   module _ (done : List Interaction) (at : IsCutAt config done) (short : IsCutShort start new done) where
     abbrev lines : List ℕ
-    lines = take short.printed.0 (text_of (actions_taken done))
+    lines = take short.printed.0 (text_of done)
 
     abbrev script_so_far : StartsWith config before (events_given done)
     script_so_far = starts_with config before (events_given done) short.read
@@ -122,9 +124,8 @@ module _ (config : Config) (before taken : Option (List ℕ)) (input output : �
         printed = refl;
       });
       front = record {
-        rest = drop short.printed.0 (text_of (actions_taken done)) ++ text_of (actions_taken at.rest);
-        parted = front_of_lines (done_in at.run) (actions_taken done) (actions_taken at.rest) short.printed.0
-            (sym (actions_taken-run at.run) ∙ ap actions_taken at.parted ∙ actions_taken-append done at.rest);
+        rest = drop short.printed.0 (text_of done) ++ text_of at.rest;
+        parted = front_of_lines at.run done at.rest short.printed.0 at.parted;
       };
     }
 
@@ -181,8 +182,8 @@ module _ (config : Config) (before taken : Option (List ℕ)) (input output : �
     all_put_before : Appends taken new.taken (text_of (done_in run))
     all_put_before =
         let g : Goes start new (interactions_of run ++ Gave event ∷ []) = d.stands in
-        all_put run (subst (λ (actions : List Action). Appends taken new.taken (text_of actions))
-        (actions_taken-append (interactions_of run) (Gave event ∷ []) ∙ append-nil (actions_taken (interactions_of run))) g.printed)
+        all_put run (subst (λ (bytes : List ℕ). Appends taken new.taken bytes)
+        (text_of-append (interactions_of run) (Gave event ∷ []) ∙ append-nil (text_of (interactions_of run))) g.printed)
 
     one_too_many : length (events_of run) + 1 ≡ 2 ^ 32 → Answers 10
     one_too_many last = record {

@@ -9,13 +9,15 @@ const TRACE: [&str; 2] = ["trace", "-"];
 
 const A_PING: &[u8] = b"begin 1 0\nclient 1 010000000e\n";
 
+const ROUNDS: &[u8] = b"observe 0=down:0\nobserve 0=down:0\n";
+
 const PONG: &[u8] = b"client 1 0700000100000002000000\n";
 
 const USAGE: &[u8] =
     b"usage: rwsplit trace SETTINGS | simulate SETTINGS N SESSIONS STEPS | serve SETTINGS | check SETTINGS FILE\n";
 
 /// Inputs with their statuses and what is printed.
-const TRACES: [(&[u8], u8, &[u8]); 9] = [
+const TRACES: [(&[u8], u8, &[u8]); 12] = [
     (A_PING, 0, b"client 1 0700000100000002000000\nend 2\n"),
     // a ping in five pieces
     (
@@ -45,6 +47,20 @@ const TRACES: [(&[u8], u8, &[u8]); 9] = [
     (b"begin 1 0\njump\n", 7, b"bad line 2\n"),
     // a server that isn't there
     (b"begin 1 0\nbegin 2 3\n", 7, b"bad line 2\n"),
+    // rounds of the monitor between a session's lines
+    (
+        b"clock 5\nobserve 0=master:12 1=slave:12 2=down:0\nbegin 1 0\nclient 1 010000000e\nclock 5\nobserve 1=running:3\n",
+        0,
+        b"observed\nclient 1 0700000100000002000000\nobserved\nend 6\n",
+    ),
+    // the clock goes back
+    (
+        b"clock 2\nobserve 1=down:0\nclock 1\n",
+        7,
+        b"observed\nbad line 3\n",
+    ),
+    // a round that names a server that isn't there
+    (b"observe 0=down:0 3=down:0\n", 7, b"bad line 1\n"),
     // three sessions; what names a session that isn't there, or a link that is gone, gives nothing
     (
         b"begin 1 0\nbegin 5 1\nbegin 9 2\nclient 9 020000000378\nclient 2 010000000e\nclient 5 010000000e\ngone 1\nlink 1 00\nlink 3 0700000100000002000000\nclient 1 010000000e\nlink 2 00\nlost 3\nclient 9 010000000e\n",
@@ -168,6 +184,9 @@ fn a_fault_in_mid_stream_ends_the_run(rt: HostRuntime) -> Result<(), Fail> {
     let (ended, sink) = run_over(rt.alloc(), &TRACE, A_PING, &[], &[1])?;
     assert_eq!(rt; ended, 5);
     assert_eq!(rt; sink.as_slice(), PONG);
+    let (ended, sink) = run_over(rt.alloc(), &TRACE, ROUNDS, &[], &[1])?;
+    assert_eq!(rt; ended, 5);
+    assert_eq!(rt; sink.as_slice(), b"observed\n".as_slice());
     Ok(())
 }
 

@@ -11,6 +11,7 @@ ghost use Rattle.rws_worker.specs.Working.{Works};
 
 use rws_board::{Failed, Sink, Source};
 use rws_config::Config;
+use rws_pool::PoolWords;
 use rws_trace::{EventReader, ScriptBoard, Side, TraceSettings, bad_line, end_line};
 use rws_wire::Text;
 use rws_worker::{WorkEnd, work_here};
@@ -85,7 +86,7 @@ fn work_over<I: Source, O: Sink>(
     (end, board.failed())
 }
 
-/// Runs a worker over the board, which afterwards holds what it was lent.
+/// Runs a worker over the board, which afterwards holds what it was lent, and over new words of a pool.
 fn work_on<I: Source, O: Sink>(
     alloc: Global,
     config: &Config,
@@ -97,7 +98,8 @@ fn work_on<I: Source, O: Sink>(
     ensures works { Works config.now (ScriptDid (state_of I.left I.faults O.taken O.faults board.old)
         (state_of I.left I.faults O.taken O.faults board.new)) result }
 {
-    work_here(alloc, board, config)
+    let mut words = PoolWords::new(config.gtid_domain);
+    work_here(alloc, board, &mut words, config)
 }
 
 /// How the trace ended, from how the worker's work did.
