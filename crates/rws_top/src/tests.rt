@@ -9,9 +9,9 @@ const TRACE: [&str; 2] = ["trace", "-"];
 
 const A_PING: &[u8] = b"begin 1 0\nclient 1 010000000e\n";
 
-const ROUNDS: &[u8] = b"observe 0=down:0\nobserve 0=down:0\n";
-
 const PONG: &[u8] = b"client 1 0700000100000002000000\n";
+
+const ROUNDS: &[u8] = b"observe 0=down:0\nobserve 0=down:0\n";
 
 const USAGE: &[u8] =
     b"usage: rwsplit trace SETTINGS | simulate SETTINGS N SESSIONS STEPS | serve SETTINGS | check SETTINGS FILE\n";
@@ -184,6 +184,11 @@ fn a_fault_in_mid_stream_ends_the_run(rt: HostRuntime) -> Result<(), Fail> {
     let (ended, sink) = run_over(rt.alloc(), &TRACE, A_PING, &[], &[1])?;
     assert_eq!(rt; ended, 5);
     assert_eq!(rt; sink.as_slice(), PONG);
+    Ok(())
+}
+
+#[test]
+fn a_round_that_is_not_printed_ends_the_run(rt: HostRuntime) -> Result<(), Fail> {
     let (ended, sink) = run_over(rt.alloc(), &TRACE, ROUNDS, &[], &[1])?;
     assert_eq!(rt; ended, 5);
     assert_eq!(rt; sink.as_slice(), b"observed\n".as_slice());
