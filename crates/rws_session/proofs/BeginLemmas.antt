@@ -9,7 +9,7 @@ use Rattle.rws_record.specs.Values.{begun_front}
 use Rattle.rws_record.specs.Record.{IsBeginning}
 use Rattle.rws_record.specs.Record.IsRecord.{begins}
 use Rattle.rws_session.specs.State.{state_of}
-use Rattle.rws_session.specs.declared.links.NumberedLink.{NumberedLink}
+use Rattle.rws_links.specs.declared.numbered.NumberedLink.{NumberedLink}
 use Rattle.rws_session.specs.Kept.{Kept, Starts}
 use Rattle.rws_session.specs.Steps.{fresh, owes}
 

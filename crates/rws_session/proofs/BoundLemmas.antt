@@ -1,12 +1,10 @@
 -- A session that stands for a record that rests holds few bytes.
-use Rattle.std.proofs.Common.{◌≡◌, ℕ, Bool, suc, ◌+◌, ◌<◌, ◌≤◌, true, false, List, [], ◌∷◌, length, map, refl, sym, ap, ◌∙◌, arith, Option, Some, None, Result, Ok, Err, IfOk}
-use Rattle.std.specs.Prelude.{All, Contains}
-use Rattle.std.proofs.lemmas.List.Elements.{All-nil, All-cons}
+use Rattle.std.proofs.Common.{◌≡◌, ℕ, Bool, ◌+◌, ◌<◌, ◌≤◌, true, false, List, length, refl, sym, ap, ◌∙◌, arith, Option, Some, None, Result, Ok, Err, IfOk}
+use Rattle.std.specs.Prelude.{Contains}
 use Rattle.rws_wire.specs.Packets.{full_packet, spelled_length}
 use Rattle.rws_wire.proofs.LengthLemmas.{unread_is_bounded}
 use Rattle.rws_link.specs.Handshake.{due}
-use Rattle.rws_link.specs.Stepping.{LinkState, LogsIn, Rests as IsResting, Awaits, IsLost, Exchange}
-use Rattle.rws_link.specs.Linking.{held_of, kept}
+use Rattle.rws_link.specs.Stepping.{LinkState, Exchange}
 use Rattle.rws_config.specs.declared.config.Config.{Config}
 use Rattle.rws_config.specs.declared.limits.TheConstants.{FLOOD_ROOM, SERVER_PAYLOAD}
 use Rattle.rws_config.specs.Allowed.{IsAllowed}
@@ -15,8 +13,8 @@ use Rattle.rws_record.specs.Item.{Item}
 use Rattle.rws_record.specs.Values.{exchange, fronted, held, is_over, link_held, linked, links, pending, unread}
 use Rattle.rws_record.proofs.RestLemmas.{Idles, Rested, rested}
 use Rattle.rws_record.proofs.RestLemmas.Idles.{at_rest, at_login}
-use Rattle.rws_session.specs.declared.links.NumberedLink.{NumberedLink}
-use Rattle.rws_session.specs.State.{State, link_of}
+use Rattle.rws_links.proofs.HoldLemmas.{links_few}
+use Rattle.rws_session.specs.State.{State}
 use Rattle.rws_session.specs.Kept.{Kept, Stands}
 use Rattle.rws_session.specs.Steps.{Hears, Rests}
 use Rattle.rws_session.specs.Bounds.{IsBounded}
@@ -55,28 +53,13 @@ module _ (config : Config) (past : List Item) (now : Rested config past) where
       by_exchange None a =
           idles_few (linked link past) (now.asked link has a)
 
-  -- what code keeps of a link holds what the link does
-  held_is : (link : LinkState) → held_of (kept link) ≡ unread link
-  held_is (LogsIn handshake bytes) = refl
-  held_is IsResting = refl
-  held_is (Awaits e bytes) = refl
-  held_is (IsLost cause) = refl
-
-  links_few : (some : List ℕ) → ((link : ℕ) → Contains some link → Contains (links past) link)
-      → All (λ (link : NumberedLink). length (held_of link.link) < spelled_length SERVER_PAYLOAD) (map (link_of past) some)
-  links_few [] has = All-nil (λ (link : NumberedLink). length (held_of link.link) < spelled_length SERVER_PAYLOAD)
-  links_few (link ∷ others) has =
-      All-cons (λ (link : NumberedLink). length (held_of link.link) < spelled_length SERVER_PAYLOAD) (link_of past link) (map (link_of past) others)
-      (rw (held_is (linked link past)) (link_few link (has link (0, omega arith, refl))))
-      (links_few others (λ other at. has other (suc at.0, omega arith, at.2)))
-
 pub bounded : (config : Config) (past : List Item) (k : Kept) → IsAllowed config → Stands config k past → IsBounded config k
 bounded config past k allowed stands = λ goes_on.
     let over : is_over past ≡ false = sym (ap (λ (s : State). s.over) stands.is.mirrors) ∙ goes_on in
     let now = rested config past stands.rests stands.unasking over in
     record {
       client = rw stands.is.mirrors (client_few config past now allowed);
-      links = rw stands.is.mirrors (links_few config past now (links past) (λ link has. has));
+      links = rw stands.is.mirrors (links_few past (links past) (link_few config past now));
     }
 
 -- a session that started, and asks for nothing

@@ -12,15 +12,16 @@ use Rattle.rws_record.specs.Record.{want_number}
 use Rattle.rws_record.specs.Values.{fronted, is_over, links, without}
 use Rattle.rws_record.specs.Record.GoesOn.{stays}
 use Rattle.rws_record.specs.Outputs.{actions_of}
-use Rattle.rws_session.specs.declared.links.NumberedLink.{NumberedLink}
+use Rattle.rws_links.specs.declared.numbered.NumberedLink.{NumberedLink}
+use Rattle.rws_links.proofs.TableLemmas.{without_is}
 use Rattle.rws_session.specs.declared.input.SessionInput.{SessionInput}
 use Rattle.rws_session.specs.declared.input.SessionInput.TheVariants as inputs
-use Rattle.rws_session.specs.State.{State, farewell_packet, link_of, number_of}
-use Rattle.rws_session.specs.Table.{without_number}
+use Rattle.rws_links.specs.Links.{link_of, number_of}
+use Rattle.rws_session.specs.State.{State, farewell_packet}
+use Rattle.rws_links.specs.Table.{without_number}
 use Rattle.rws_session.specs.Kept.{Holds, Is, Kept, Lasting, Stands, lasting, lasting_of}
 use Rattle.rws_session.specs.Steps.{Goes, Hears, HearsInPart, Stops}
 use Rattle.rws_session.specs.Turning.{Breaks, BreaksOff, heard, heard_open}
-use Rattle.rws_session.proofs.MirrorLemmas.{without_is}
 use Rattle.rws_session.proofs.TurnLemmas.{hearing, has}
 
 -- what is known is known of an error

@@ -1,9 +1,3 @@
--- two numbers that differ
-pub mod NumberLemmas
--- the table of links
-pub mod TableLemmas
--- what is true of every legal record
-pub mod RecordLemmas
 -- what the client's side says, and holds
 pub mod FrontLemmas
 -- what code makes of its state is the state of the record with one item more

@@ -1,6 +1,5 @@
 -- What code makes of its state in a step is the state of the record with the step's item.
 use Rattle.std.proofs.Common.{◌≡◌, ◌≤◌, ℕ, length, take, Bool, true, false, List, [], ◌∷◌, map, refl, ap, ◌∙◌, Option, Some, None}
-use Rattle.std.specs.Prelude.{◌==◌}
 use Rattle.std.proofs.lemmas.Simd.{map-map}
 use Rattle.std.proofs.lemmas.List.{map-append, take_all}
 use Rattle.rws_wire.specs.declared.drop_cause.DropCause.TheVariants.{End}
@@ -9,31 +8,19 @@ use Rattle.rws_record.specs.Item.{Item, Put}
 use Rattle.rws_record.specs.Item.Item.{Puts}
 use Rattle.rws_record.specs.Item.Put.{Hands, Tells, Routes, Opens, LogsInto, Sends, Drops, Closes}
 use Rattle.rws_record.specs.Item.Tell.{Passes, Owns, Refuses}
-use Rattle.rws_record.specs.Values.{links, without}
+use Rattle.rws_record.specs.Values.{links}
 use Rattle.rws_record.specs.Rules.{owed, after_loss, is_loss}
-use Rattle.rws_session.specs.declared.links.NumberedLink.{NumberedLink}
+use Rattle.rws_links.specs.declared.numbered.NumberedLink.{NumberedLink}
 use Rattle.rws_session.specs.declared.owing.Out.{Out}
 use Rattle.rws_session.specs.declared.owing.Out.TheVariants as outs
-use Rattle.rws_session.specs.State.{State, erased, link_of, state_of}
-use Rattle.rws_session.specs.Table.{without_number}
-use Rattle.rws_session.proofs.TableLemmas.{opened_is}
+use Rattle.rws_links.specs.Links.{link_of}
+use Rattle.rws_session.specs.State.{State, erased, state_of}
+use Rattle.rws_links.proofs.TableLemmas.{opened_is, without_is}
 use Rattle.rws_session.specs.Steps.{after_out, gives_up}
 
 -- what is kept of a record, but for what is owed
 abbrev pub owing_else : Config → List Item → List (Option Out) → State
 owing_else config past owed = record (state_of config past) { owed = owed }
-
--- the table without a link
-pub without_is : (past : List Item) (number : ℕ) (links : List ℕ)
-    → without_number number (map (link_of past) links) ≡ map (link_of past) (without number links)
-without_is past number [] = refl
-without_is past number (link ∷ others) = by_test (link == number) refl (without_is past number others)
-  where
-    by_test : (test : Bool) → (link == number) ≡ test
-        → without_number number (map (link_of past) others) ≡ map (link_of past) (without number others)
-        → without_number number (map (link_of past) (link ∷ others)) ≡ map (link_of past) (without number (link ∷ others))
-    by_test true t behind = rw t behind
-    by_test false t behind = rw t (rw behind refl)
 
 -- all links were gone through
 pub farewells_wait : (links : List NumberedLink) (count : ℕ) (owed : List Out)

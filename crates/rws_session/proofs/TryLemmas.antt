@@ -28,16 +28,17 @@ use Rattle.rws_record.specs.Rules.{after_answer, after_coming, after_command, af
 use Rattle.rws_record.specs.Outputs.{outs_for}
 use Rattle.rws_record.proofs.StepLemmas.{IsConnecting}
 use Rattle.rws_record.proofs.StepLemmas.IsConnecting.{sends_back, lets_in, ends_it}
-use Rattle.rws_session.specs.declared.links.Asked.{Asked}
-use Rattle.rws_session.specs.declared.links.Coming.{Coming}
-use Rattle.rws_session.specs.declared.links.NumberedLink.{NumberedLink}
+use Rattle.rws_links.specs.declared.numbered.Asked.{Asked}
+use Rattle.rws_links.specs.declared.coming.Coming.{Coming}
+use Rattle.rws_links.specs.declared.numbered.NumberedLink.{NumberedLink}
 use Rattle.rws_session.specs.declared.owing.Out.{Out}
-use Rattle.rws_session.specs.State.{State, asked_for, erased, link_of, state_of}
-use Rattle.rws_session.specs.Table.{AreDistinct, ReadsFirst, SendsOn}
+use Rattle.rws_links.specs.Links.{asked_for, link_of}
+use Rattle.rws_session.specs.State.{State, erased, state_of}
+use Rattle.rws_links.specs.Table.{AreDistinct, ReadsFirst, SendsOn}
 use Rattle.rws_session.specs.Kept.{Kept, Is}
 use Rattle.rws_session.specs.Steps.{SendsPending, SendsPreamble, TakesSaid, Tries, Went, action_of, after_out, connects, due_put, gives, going_on, owes, owes_for, owes_part, owes_reply, pending_by, recounted, stands_at, takes}
 use Rattle.rws_session.proofs.FrontLemmas.{idle_stays}
-use Rattle.rws_session.proofs.RecordLemmas.{links_distinct}
+use Rattle.rws_links.proofs.DistinctLemmas.{links_distinct}
 use Rattle.rws_session.proofs.MirrorLemmas.{put_is, owing_else}
 
 -- What is owed

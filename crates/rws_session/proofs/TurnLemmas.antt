@@ -21,20 +21,21 @@ use Rattle.rws_record.specs.Record.GoesOn.{stays, then as goes_then}
 use Rattle.rws_record.specs.Outputs.{actions_of, outs_of}
 use Rattle.rws_record.proofs.RecordLemmas.{contained}
 use Rattle.rws_record.proofs.StepLemmas.{rests_owing_nothing}
-use Rattle.rws_session.specs.declared.links.NumberedLink.{NumberedLink}
+use Rattle.rws_links.specs.declared.numbered.NumberedLink.{NumberedLink}
 use Rattle.rws_session.specs.declared.input.SessionInput.{SessionInput}
 use Rattle.rws_session.specs.declared.input.SessionInput.TheVariants as inputs
-use Rattle.rws_session.specs.State.{State, erased, link_of}
-use Rattle.rws_session.specs.Table.{AreDistinct, ReadiesOn}
+use Rattle.rws_links.specs.Links.{link_of}
+use Rattle.rws_session.specs.State.{State, erased}
+use Rattle.rws_links.specs.Table.{AreDistinct, ReadiesOn}
 use Rattle.rws_session.specs.Kept.{Asking, Is, Kept, Stands, StandsOr}
 use Rattle.rws_session.specs.Turning.{heard, heard_open}
 use Rattle.rws_session.specs.Steps.{Goes, Hears, Rests, Tries, ends, gives, loses, opens_link, routes, stands_at}
 use Rattle.rws_session.specs.declared.owing.Out.TheVariants as outs
 use Rattle.rws_session.specs.Turning.{Opens as LinkOpens, Settles, Turns}
-use Rattle.rws_session.proofs.RecordLemmas.{links_distinct}
+use Rattle.rws_links.proofs.DistinctLemmas.{links_distinct}
 use Rattle.rws_record.proofs.OpeningLemmas.{asks_owing_nothing}
-use Rattle.rws_session.proofs.TableLemmas.{has_is, opened_is}
-use Rattle.rws_session.proofs.MirrorLemmas.{farewells_are, without_is}
+use Rattle.rws_links.proofs.TableLemmas.{has_is, opened_is, without_is}
+use Rattle.rws_session.proofs.MirrorLemmas.{farewells_are}
 
 -- Steps
 

@@ -7,7 +7,8 @@ use Rattle.rws_record.specs.Rules.{next}
 use Rattle.rws_native.specs.declared.login.Login.{Login}
 use Rattle.rws_record.specs.Values.{asking, is_over, links as links_of}
 use Rattle.rws_record.specs.Record.{IsRecord, want_number}
-use Rattle.rws_session.specs.State.{State, farewell_packet, number_of, state_of}
+use Rattle.rws_links.specs.Links.{number_of}
+use Rattle.rws_session.specs.State.{State, farewell_packet, state_of}
 
 pub record Kept : Type 0 where
   -- the session's number

@@ -1,7 +1,6 @@
 -- what a session keeps, as a function of its record
 pub mod State
 pub mod Kept
-pub mod Table
 pub mod Steps
 pub mod Bounds
 -- a turn

@@ -1,25 +1,21 @@
 -- What a session keeps of its record: a value for each thing that its later steps depend on.
 use Rattle.std.specs.Prelude.{ℕ, Bool, List, ◌∷◌, map, Option, Some, None}
-use Rattle.std.specs.Option.{option_map}
 use Rattle.rws_wire.specs.Packets.{spelling}
 use Rattle.rws_msgs.specs.ErrLayout.{err_bytes}
 use Rattle.rws_native.specs.declared.login.Login.{Login}
 use Rattle.rws_front.specs.Fronting.{Fronting}
-use Rattle.rws_link.specs.Linking.{kept}
 use Rattle.rws_config.specs.declared.config.Config.{Config}
 use Rattle.rws_record.specs.declared.command.Command.{Command}
 use Rattle.rws_record.specs.declared.proxy_error.ProxyError.TheVariants.{OutOfMemory}
-use Rattle.rws_record.specs.Item.{Item, Purpose, Put}
-use Rattle.rws_record.specs.Item.Purpose.{Prepares, Asks}
+use Rattle.rws_record.specs.Item.{Item, Put}
 use Rattle.rws_record.specs.Item.Put.{Hands, Tells, Routes, Opens, LogsInto, Sends, Drops, Closes}
 use Rattle.rws_record.specs.Item.Tell.{Passes, Owns, Refuses}
 use Rattle.rws_record.specs.Record.{want_number}
-use Rattle.rws_record.specs.Values.{asked_on, asking, fronted, is_over, is_up, kept_on, linked, links, login_of, pending, reply_number, sent_on, server_of, told_from}
+use Rattle.rws_record.specs.Values.{asking, fronted, is_over, kept_on, links, login_of, pending, reply_number, sent_on, told_from}
 use Rattle.rws_record.specs.Rules.{owed}
 use Rattle.rws_record.specs.Errors.{error_of}
-use Rattle.rws_session.specs.declared.links.Asked.{Asked}
-use Rattle.rws_session.specs.declared.links.Asked.TheVariants.{Preamble, Command as ACommand}
-use Rattle.rws_session.specs.declared.links.NumberedLink.{NumberedLink}
+use Rattle.rws_links.specs.declared.numbered.NumberedLink.{NumberedLink}
+pub use Rattle.rws_links.specs.Links.{link_of, number_of}
 use Rattle.rws_session.specs.declared.owing.Out.{Out}
 use Rattle.rws_session.specs.declared.owing.Out.TheVariants as outs
 
@@ -59,24 +55,6 @@ erased (Tells number (Refuses error)) = Some (outs.Refuse number error)
 erased (Sends link purpose) = None
 erased (Drops link cause) = Some (outs.Drop link cause)
 erased (Closes reason) = Some (outs.Close reason)
-
--- what code needs to know of why something was sent on a link
-abbrev pub asked_for : Purpose → Asked
-asked_for Prepares = Preamble
-asked_for (Asks command) = ACommand
-
--- a link by its number
-abbrev pub link_of : List Item → ℕ → NumberedLink
-link_of past number = record {
-  number = number;
-  server = server_of number past;
-  is_up = is_up number past;
-  asked = option_map asked_for (asked_on number past);
-  link = kept (linked number past);
-}
-
-abbrev pub number_of : NumberedLink → ℕ
-number_of link = link.number
 
 -- it is made with the session, and waits for want of memory
 abbrev pub farewell_packet : List ℕ

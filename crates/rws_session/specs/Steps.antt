@@ -28,15 +28,14 @@ use Rattle.rws_record.specs.Errors.{error_of}
 use Rattle.rws_record.specs.Judging.{judged}
 use Rattle.rws_record.specs.Outputs.{actions_of, own_ok, outs_of}
 use Rattle.rws_record.specs.Values.{login_by, preamble}
-use Rattle.rws_link.specs.Linking.{kept}
-use Rattle.rws_link.specs.Stepping.{opened}
-use Rattle.rws_session.specs.declared.links.Asked.{Asked}
-use Rattle.rws_session.specs.declared.links.Asked.TheVariants.{Preamble, Command as ACommand}
-use Rattle.rws_session.specs.declared.links.NumberedLink.{NumberedLink}
+use Rattle.rws_links.specs.declared.numbered.Asked.{Asked}
+use Rattle.rws_links.specs.declared.numbered.Asked.TheVariants.{Preamble, Command as ACommand}
+use Rattle.rws_links.specs.declared.numbered.NumberedLink.{NumberedLink}
+use Rattle.rws_links.specs.Links.{new_link}
 use Rattle.rws_session.specs.declared.owing.Out.{Out}
 use Rattle.rws_session.specs.declared.owing.Out.TheVariants as outs
 use Rattle.rws_session.specs.State.{State, erased, farewell_packet, state_of}
-use Rattle.rws_session.specs.Table.{without_number}
+use Rattle.rws_links.specs.Table.{without_number}
 use Rattle.rws_session.specs.Kept.{Is, Kept, StandsOr, lasting, lasting_of}
 
 -- a session with this client's side and these links, and nothing else as yet
@@ -106,11 +105,6 @@ gives_up link cause s = if is_loss cause then loses link s else record s { links
 -- the session is over, and is to give up its links
 abbrev pub ends : State → State
 ends s = record s { over = true; owed = map (λ link. Some (outs.Drop link.number End)) s.links }
-
--- a link that was just opened
-abbrev pub new_link : (link server : ℕ) → Login → NumberedLink
-new_link link server login =
-    record { number = link; server = server; is_up = false; asked = None; link = kept (opened login) }
 
 -- a link is opened, and the session kept on it
 abbrev pub opens_link : (link server : ℕ) → Login → State → State

@@ -2,8 +2,6 @@
 #![tactic(auto)]
 
 mod input;
-mod links;
-mod login;
 mod owing;
 mod session;
 #[cfg(test)]

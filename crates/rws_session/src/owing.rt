@@ -1,6 +1,6 @@
 //! What a session owes: it is decided on, and given out in later steps of the same turn.
 
-use crate::login::LinkLogin;
+use rws_links::LinkLogin;
 use rws_record::ProxyError;
 use rws_reply::Outcome;
 use rws_wire::{CloseReason, DropCause, Text};

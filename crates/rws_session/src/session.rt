@@ -14,12 +14,11 @@ mod steps;
 mod taking;
 
 use crate::SessionInput;
-use crate::links::LinkTable;
-use crate::login::LinkLogin;
 use crate::owing::Out;
 use rws_board::Action;
 use rws_config::Config;
 use rws_front::Front;
+use rws_links::{LinkLogin, LinkTable};
 use rws_record::Command;
 use rws_wire::Text;
 use std::alloc::{AllocError, Global};

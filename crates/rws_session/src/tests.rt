@@ -1,4 +1,6 @@
 //! Sessions from their first command to their end, with ample memory.
+//!
+//! A session is played through a reference: what is alive at a `?` is dropped there, and each drop of a session is a case to prove.
 
 use super::*;
 use rws_board::Action;
@@ -6,6 +8,101 @@ use rws_config::{COMMAND_BYTES, Config, FLOOD_ROOM, built_in};
 use rws_wire::Text;
 use std::alloc::{AllocError, Global};
 use std::test::Fail;
+
+/// Bytes of the client (`true`) or of link 1, and what the client and the link get for them.
+type Turn = (bool, &'static [u8], &'static [u8], &'static [u8]);
+
+/// What a session gave out in a turn.
+#[derive(Drop)]
+struct Given {
+    /// How many outputs there were.
+    count: u8,
+    /// The bytes for the client.
+    told: Vec<u8>,
+    /// The bytes for its link.
+    sent: Vec<u8>,
+}
+
+impl Given {
+    fn new(alloc: Global) -> Given {
+        Given {
+            count: 0,
+            told: Vec::new(alloc),
+            sent: Vec::new(alloc),
+        }
+    }
+
+    /// Fetches all that a session gave out.
+    fn fetch(&mut self, session: &mut Session) -> Result<(), AllocError> {
+        self.told.clear();
+        self.sent.clear();
+        for count in 0..u8::MAX {
+            let Some(action) = session.next_out() else {
+                self.count = count;
+                return Ok(());
+            };
+            self.add(action)?;
+        }
+        Err(AllocError)
+    }
+
+    fn add(&mut self, action: Action) -> Result<(), AllocError> {
+        match action {
+            Action::ToClient { session: _, bytes } => self.told.extend_from_slice(bytes.as_slice()),
+            Action::ToLink { link: _, bytes } => self.sent.extend_from_slice(bytes.as_slice()),
+            _ => Ok(()),
+        }
+    }
+}
+
+/// A session starts: whether it asks for a link.
+fn start(session: &mut Session, config: &Config, given: &mut Given) -> Result<bool, AllocError> {
+    let asks = session.start(config)?;
+    given.fetch(session)?;
+    Ok(asks)
+}
+
+/// Bytes come: whether the session asks for a link.
+fn hear(
+    session: &mut Session,
+    of_client: bool,
+    bytes: Text,
+    config: &Config,
+    given: &mut Given,
+) -> Result<bool, AllocError> {
+    let input = if of_client {
+        SessionInput::Client(bytes)
+    } else {
+        SessionInput::Link { link: 1, bytes }
+    };
+    let asks = session.turn(input, config)?;
+    given.fetch(session)?;
+    Ok(asks)
+}
+
+/// Plays turns in which a session asks for nothing: how many went as they are to, up to the first that didn't.
+fn play(
+    alloc: Global,
+    session: &mut Session,
+    turns: &[Turn],
+    config: &Config,
+    given: &mut Given,
+) -> Result<usize, AllocError> {
+    for at in 0..turns.len() {
+        let (of_client, piece, told, sent) = turns[at];
+        let asks = hear(
+            session,
+            of_client,
+            Text::from_slice(alloc, piece)?,
+            config,
+            given,
+        )?;
+        if asks || given.told.as_slice() != told || given.sent.as_slice() != sent {
+            return Ok(at);
+        }
+    }
+    Ok(turns.len())
+}
 
 /// A result of one row, in packets from number 1 on: the number of columns, a definition, an EOF, the row, an EOF.
 const RESULT: &[u8] =
@@ -19,8 +116,8 @@ const TRACKED: &[u8] = b"\x1b\0\0\x01\0\x01\0\x02\x40\0\0\0\x12\0\x10\x09last_gt
 
 const UNTRACKED: &[u8] = b"\x07\0\0\x01\0\x01\0\x02\0\0\0";
 
-/// Bytes of the client (`true`) and of its link, and what the client and the link get for them.
-const TURNS: [(bool, &[u8], &[u8], &[u8]); 7] = [
+/// Pings, queries, a reply with session state, one in parts, and a quit behind a query.
+const TURNS: [Turn; 7] = [
     (true, b"\x01\0\0\0\x0e\x02\0\0\0\x03", PONG, b""),
     (true, b"w", b"", b"\x02\0\0\0\x03w"),
     (false, TRACKED, UNTRACKED, b""),
@@ -35,49 +132,34 @@ const TURNS: [(bool, &[u8], &[u8], &[u8]); 7] = [
     (true, b"\x01\0\0\0\x01", b"", b""),
 ];
 
-/// Fetches all that was given out: the bytes for the client and for the link, and how many outputs there were.
-fn fetch(session: &mut Session, told: &mut Vec<u8>, sent: &mut Vec<u8>) -> Result<u8, AllocError> {
-    for count in 0..u8::MAX {
-        match session.next_out() {
-            None => return Ok(count),
-            Some(Action::ToClient { session: _, bytes }) => told.extend_from_slice(
-                bytes.as_slice(),
-            )?,
-            Some(Action::ToLink { link: _, bytes }) => sent.extend_from_slice(bytes.as_slice())?,
-            Some(_) => {}
-        }
-    }
-    Err(AllocError)
+/// The rest of the result: its four payloads, the ping's OK, the close, and the drop of the link.
+fn end(
+    alloc: Global,
+    session: &mut Session,
+    config: &Config,
+    given: &mut Given,
+) -> Result<bool, AllocError> {
+    hear(
+        session,
+        false,
+        Text::from_slice(alloc, &RESULT[5..])?,
+        config,
+        given,
+    )
 }
 
 #[test]
 fn session(rt: HostRuntime) -> Result<(), Fail> {
     let config = built_in(rt.alloc())?;
     let mut session = Session::begin(rt.alloc(), 7, 0, 1, &config)?;
-    for (from_client, piece, to_client, to_link) in TURNS {
-        let bytes = Text::from_slice(rt.alloc(), piece)?;
-        let input = if from_client {
-            SessionInput::Client(bytes)
-        } else {
-            SessionInput::Link { link: 1, bytes }
-        };
-        session.turn(input, &config)?;
-        let mut told = Vec::new(rt.alloc());
-        let mut sent = Vec::new(rt.alloc());
-        fetch(&mut session, &mut told, &mut sent)?;
-        assert_eq!(rt; told.as_slice(), to_client);
-        assert_eq!(rt; sent.as_slice(), to_link);
-        assert!(rt; session.has_link(1));
-    }
-    assert!(rt; session.awaits(1) && !session.awaits(2));
-    let bytes = Text::from_slice(rt.alloc(), &RESULT[5..])?;
-    session.turn(SessionInput::Link { link: 1, bytes }, &config)?;
-    let count = fetch(
-        &mut session,
-        &mut Vec::new(rt.alloc()),
-        &mut Vec::new(rt.alloc()),
-    )?;
-    assert_eq!(rt; count, 7);
+    let mut given = Given::new(rt.alloc());
+    let went = play(rt.alloc(), &mut session, &TURNS, &config, &mut given);
+    assert_eq!(rt; went.ok(), Some(TURNS.len()));
+    // No turn opens a link, so it was there all the time.
+    assert!(rt; session.has_link(1) && session.awaits(1) && !session.awaits(2));
+    let asks = end(rt.alloc(), &mut session, &config, &mut given);
+    assert_eq!(rt; asks.ok(), Some(false));
+    assert_eq!(rt; given.count, 7);
     assert!(rt; session.is_over() && !session.has_link(1));
     Ok(())
 }
@@ -87,6 +169,10 @@ const COMMAND: &[u8] = b"\x02\0\0\0\x03x";
 
 const TOO_LARGE: &[u8] = b"\x1a\0\0\x01\xff\x81\x04#08S01command too large";
 
+const ASKED: [Turn; 1] = [(true, COMMAND, b"", COMMAND)];
+
+const FLOODED: [Turn; 1] = [(true, b"\0", TOO_LARGE, b"")];
+
 /// The settings by which a client may send the least ahead.
 fn narrow(alloc: Global) -> Result<Config, AllocError> {
     let mut config = built_in(alloc)?;
@@ -94,44 +180,33 @@ fn narrow(alloc: Global) -> Result<Config, AllocError> {
     Ok(config)
 }
 
-/// Hands in what the client sends: how many outputs there were, and the bytes for the client.
-fn hear(
+/// So many bytes come behind a command.
+fn fill(
     alloc: Global,
     session: &mut Session,
-    bytes: Text,
+    most: usize,
     config: &Config,
-) -> Result<(u8, Vec<u8>), AllocError> {
-    session.turn(SessionInput::Client(bytes), config)?;
-    let mut told = Vec::new(alloc);
-    let count = fetch(session, &mut told, &mut Vec::new(alloc))?;
-    Ok((count, told))
-}
-
-/// A session that awaits a reply, and so many bytes behind its command.
-fn full(alloc: Global, config: &Config, most: usize) -> Result<Session, AllocError> {
-    let mut session = Session::begin(alloc, 7, 0, 1, config)?;
-    hear(
-        alloc,
-        &mut session,
-        Text::from_slice(alloc, COMMAND)?,
-        config,
-    )?;
+    given: &mut Given,
+) -> Result<bool, AllocError> {
     let behind = vec![in alloc; 0; most]?;
-    hear(alloc, &mut session, Text::new(behind), config)?;
-    Ok(session)
+    hear(session, true, Text::new(behind), config, given)
 }
 
 #[test]
 fn floods(rt: HostRuntime) -> Result<(), Fail> {
     let config = narrow(rt.alloc())?;
+    let mut session = Session::begin(rt.alloc(), 7, 0, 1, &config)?;
+    let mut given = Given::new(rt.alloc());
     let most = COMMAND_BYTES.least + FLOOD_ROOM;
-    let mut session = full(rt.alloc(), &config, most as usize)?;
+    let went = play(rt.alloc(), &mut session, &ASKED, &config, &mut given);
+    assert_eq!(rt; went.ok(), Some(1));
+    let asks = fill(rt.alloc(), &mut session, most as usize, &config, &mut given);
+    assert_eq!(rt; asks.ok(), Some(false));
     assert!(rt; session.unanswered() == most && session.awaits(1));
-    let one = Text::from_slice(rt.alloc(), b"\0")?;
-    let (count, told) = hear(rt.alloc(), &mut session, one, &config)?;
+    let went = play(rt.alloc(), &mut session, &FLOODED, &config, &mut given);
+    assert_eq!(rt; went.ok(), Some(1));
     // 1153, the close, and the drop of the link
-    assert_eq!(rt; count, 3);
-    assert_eq!(rt; told.as_slice(), TOO_LARGE);
+    assert_eq!(rt; given.count, 3);
     assert!(rt; session.is_over() && !session.awaits(1));
     Ok(())
 }
@@ -166,45 +241,48 @@ const REPEATED: &[u8] =
 const PREAMBLE: &[u8] =
     b"\x64\0\0\0\x03SET SESSION session_track_system_variables = CONCAT(@@session_track_system_variables, ',last_gtid')";
 
-/// What the server sends after its greeting, and what the link and the client get for it.
-const ANSWERS: [(&[u8], &[u8], &[u8]); 3] = [
-    (WELCOME, PREAMBLE, b""),
-    (PONG, COMMAND, b""),
-    (PONG, b"", PONG),
+const LOGIN: [Turn; 1] = [(true, RESPONSE, WELCOME, b"")];
+
+/// The server's side of the link's login, of its preamble, and of the command.
+const ANSWERS: [Turn; 4] = [
+    (false, GREETING, b"", REPEATED),
+    (false, WELCOME, b"", PREAMBLE),
+    (false, PONG, b"", COMMAND),
+    (false, PONG, PONG, b""),
 ];
+
+/// A command comes: whether a session asks for a link, and whether it does once it has one.
+fn ask(
+    alloc: Global,
+    session: &mut Session,
+    config: &Config,
+    given: &mut Given,
+) -> Result<(bool, bool), AllocError> {
+    let asks = hear(
+        session,
+        true,
+        Text::from_slice(alloc, COMMAND)?,
+        config,
+        given,
+    )?;
+    session.open_link(1, 0)?;
+    Ok((asks, start(session, config, given)?))
+}
 
 #[test]
 fn a_client_logs_in_and_its_link_does(rt: HostRuntime) -> Result<(), Fail> {
     let config = built_in(rt.alloc())?;
     let mut session = Session::accept(rt.alloc(), 2, *b"ABCDEFGHIJKLMNOPQRST", &config)?;
-    assert!(rt; !session.start(&config)?);
-    let mut told = Vec::new(rt.alloc());
-    let mut sent = Vec::new(rt.alloc());
-    assert_eq!(rt; fetch(&mut session, &mut told, &mut sent)?, 1);
-    assert_eq!(rt; told.len(), 86);
-    let bytes = Text::from_slice(rt.alloc(), RESPONSE)?;
-    assert!(rt; !session.turn(SessionInput::Client(bytes), &config)?);
-    told.clear();
-    fetch(&mut session, &mut told, &mut sent)?;
-    assert_eq!(rt; told.as_slice(), WELCOME);
-    let bytes = Text::from_slice(rt.alloc(), COMMAND)?;
+    let mut given = Given::new(rt.alloc());
+    assert_eq!(rt; start(&mut session, &config, &mut given).ok(), Some(false));
+    assert!(rt; given.count == 1 && given.told.len() == 86);
+    let went = play(rt.alloc(), &mut session, &LOGIN, &config, &mut given);
+    assert_eq!(rt; went.ok(), Some(1));
     // It has no link, and asks for one.
-    assert!(rt; session.turn(SessionInput::Client(bytes), &config)?);
-    session.open_link(1, 0)?;
-    assert!(rt; !session.start(&config)?);
-    let bytes = Text::from_slice(rt.alloc(), GREETING)?;
-    session.turn(SessionInput::Link { link: 1, bytes }, &config)?;
-    fetch(&mut session, &mut told, &mut sent)?;
-    assert_eq!(rt; sent.as_slice(), REPEATED);
-    for (piece, to_link, to_client) in ANSWERS {
-        let bytes = Text::from_slice(rt.alloc(), piece)?;
-        session.turn(SessionInput::Link { link: 1, bytes }, &config)?;
-        told.clear();
-        sent.clear();
-        fetch(&mut session, &mut told, &mut sent)?;
-        assert_eq!(rt; sent.as_slice(), to_link);
-        assert_eq!(rt; told.as_slice(), to_client);
-    }
+    let asks = ask(rt.alloc(), &mut session, &config, &mut given);
+    assert_eq!(rt; asks.ok(), Some((true, false)));
+    let went = play(rt.alloc(), &mut session, &ANSWERS, &config, &mut given);
+    assert_eq!(rt; went.ok(), Some(ANSWERS.len()));
     Ok(())
 }
 
@@ -212,14 +290,11 @@ fn a_client_logs_in_and_its_link_does(rt: HostRuntime) -> Result<(), Fail> {
 fn a_session_too_many_is_turned_away(rt: HostRuntime) -> Result<(), Fail> {
     let config = built_in(rt.alloc())?;
     let mut session = Session::turn_away(rt.alloc(), 2, true, &config)?;
-    session.start(&config)?;
-    let mut told = Vec::new(rt.alloc());
+    let mut given = Given::new(rt.alloc());
+    assert_eq!(rt; start(&mut session, &config, &mut given).ok(), Some(false));
+    assert_eq!(rt; given.count, 2);
     assert_eq!(rt;
-        fetch(&mut session, &mut told, &mut Vec::new(rt.alloc()))?,
-        2
-    );
-    assert_eq!(rt;
-        told.as_slice(),
+        given.told.as_slice(),
         b"\x1d\0\0\0\xff\x10\x04#08004too many connections".as_slice()
     );
     assert!(rt; session.is_over());

@@ -6,11 +6,11 @@ ghost use Rattle.rws_record.specs.Values.{begun_front};
 ghost use Rattle.rws_session.specs.State.{farewell_packet};
 ghost use Rattle.rws_session.specs.Steps.{fresh, owes};
 
-use crate::links::LinkTable;
 use crate::owing::Out;
 use crate::session::Session;
 use rws_config::Config;
 use rws_front::Front;
+use rws_links::LinkTable;
 use rws_record::ProxyError;
 use rws_wire::{CloseReason, frame};
 use std::alloc::{AllocError, Global};

@@ -7,15 +7,14 @@ ghost use Rattle.rws_record.specs.Rules.{after_loss_by, assigned_by, has_transac
 ghost use Rattle.rws_record.specs.Outputs.{own_ok};
 ghost use Rattle.rws_session.specs.declared.owing.Out.TheVariants as outs;
 ghost use Rattle.rws_session.specs.State.{erased};
-ghost use Rattle.rws_session.specs.Table.{without_number};
+ghost use Rattle.rws_links.specs.Table.{without_number};
 ghost use Rattle.rws_session.specs.Kept.{Holds};
 ghost use Rattle.rws_session.specs.Steps.{after_out, closes, ends, gives, gives_up, loses, loss_in, passed};
 
-use crate::links::NumberedLink;
-use crate::login::LinkLogin;
 use crate::owing::Out;
 use crate::session::Session;
 use rws_board::Action;
+use rws_links::{LinkLogin, NumberedLink};
 use rws_reply::Outcome;
 use rws_wire::{CloseReason, DropCause, Text, frame};
 use std::alloc::AllocError;

@@ -4,15 +4,15 @@ ghost use Rattle.rws_config.specs.declared.config.Config.{Config};
 ghost use Rattle.rws_record.specs.Item.{Item};
 ghost use Rattle.rws_record.specs.Values.{links};
 ghost use Rattle.rws_record.specs.Rules.{after_preparing, drop_cause, due_arrival, form_of, owed, unasked};
-ghost use Rattle.rws_session.specs.State.{link_of};
-ghost use Rattle.rws_session.specs.Table.{AreDistinct, ReadsFirst};
+ghost use Rattle.rws_links.specs.Links.{link_of};
+ghost use Rattle.rws_links.specs.Table.{AreDistinct, ReadsFirst};
 ghost use Rattle.rws_session.specs.Kept.{Holds, Is};
 ghost use Rattle.rws_session.specs.Steps.{Tries, owes, owes_for, owes_reply};
 
-use crate::links::{Asked, Coming};
 use crate::owing::Out;
 use crate::session::Session;
 use rws_link::{LinkCause, LinkStep};
+use rws_links::{Asked, Coming};
 use rws_reply::{Outcome, Progress, Role, client_payload};
 use rws_wire::{DropCause, Text};
 use std::alloc::AllocError;

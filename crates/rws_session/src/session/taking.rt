@@ -11,12 +11,12 @@ ghost use Rattle.rws_record.specs.Rules.{due_take, owed};
 ghost use Rattle.rws_session.specs.Kept.{Holds, Is};
 ghost use Rattle.rws_session.specs.Steps.{TakesSaid, Tries, answers, owes, recounted, takes};
 
-use crate::login::LinkLogin;
 use crate::owing::Out;
 use crate::session::Session;
 use rws_class::Class;
 use rws_config::Config;
 use rws_front::FrontStep;
+use rws_links::LinkLogin;
 use rws_msgs::status::AUTOCOMMIT;
 use rws_record::{Command, ProxyError, Request};
 use rws_reply::Kind;

@@ -1,7 +1,7 @@
 use Rattle.std.proofs.Common.{refl, Some}
 use Rattle.rws_record.specs.Item.Item.{Began}
 use Rattle.rws_session.proofs.BeginLemmas.{made}
-use Rattle.rws_session.proofs.TableLemmas.{itself}
+use Rattle.rws_links.proofs.TableLemmas.{itself}
 use Rattle.rws_session.proofs.session.Session.begin.Goals as goal
 
 pub returns : goal.returns

@@ -1,7 +1,7 @@
 use Rattle.std.proofs.Common.{ap}
 use Rattle.rws_record.specs.Values.{links}
 use Rattle.rws_session.specs.State.{State}
-use Rattle.rws_session.proofs.RecordLemmas.{links_distinct}
+use Rattle.rws_links.proofs.DistinctLemmas.{links_distinct}
 use Rattle.rws_session.proofs.TryLemmas.{read_nothing, read_one}
 use Rattle.rws_session.proofs.session.Session.read_links.Goals as goal
 

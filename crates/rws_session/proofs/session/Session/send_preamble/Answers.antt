@@ -1,7 +1,7 @@
 use Rattle.std.proofs.Common.{◌≡◌, map, refl, subst, sym}
 use Rattle.rws_record.specs.Item.Purpose.{Prepares}
 use Rattle.rws_session.specs.Kept.{Kept}
-use Rattle.rws_session.specs.State.{link_of}
+use Rattle.rws_links.specs.Links.{link_of}
 use Rattle.rws_session.proofs.session.Session.send_preamble.Goals as goal
 
 pub returns-then-not-branch-clause-links : goal.returns-then-not-branch-clause-links

@@ -1,0 +1,95 @@
+-- The links that a session has, as code keeps them.
+use Rattle.std.specs.Prelude.{◌≡◌, ℕ, Bool, true, false, not, ◌==◌, ◌&&◌, List, [], ◌∷◌, filter, map, Option, Some, None, if◌then◌else◌}
+use Rattle.std.specs.Option.{option_map}
+use Rattle.rws_reply.specs.declared.kind.Kind.{Kind}
+use Rattle.rws_reply.specs.declared.kind.Outcome.TheVariants.{Done}
+use Rattle.rws_reply.specs.declared.kind.Progress.TheVariants.{Whole as Ends}
+use Rattle.rws_link.specs.declared.step.LinkStep.{LinkStep}
+use Rattle.rws_link.specs.declared.step.LinkStep.TheVariants as steps
+use Rattle.rws_link.specs.Linking.{IsReady, kept}
+use Rattle.rws_link.specs.Stepping.{Rests, is_new, sent}
+use Rattle.rws_record.specs.Item.{Item, Purpose}
+use Rattle.rws_record.specs.Item.Item.{Comes, LinkReady, Puts}
+use Rattle.rws_record.specs.Item.Put.{Sends}
+use Rattle.rws_record.specs.Values.{asked_on, contains, is_up, kind_of, linked, sent_for}
+use Rattle.rws_record.specs.Rules.{due_arrival, is_ready, is_same}
+use Rattle.rws_links.specs.declared.numbered.Asked.{Asked}
+use Rattle.rws_links.specs.declared.numbered.Asked.TheVariants.{Preamble, Command as ACommand}
+use Rattle.rws_links.specs.declared.coming.Coming.{Coming}
+use Rattle.rws_links.specs.declared.numbered.NumberedLink.{NumberedLink}
+use Rattle.rws_links.specs.Links.{asked_for, link_of}
+
+abbrev pub has_number : ℕ → NumberedLink → Bool
+has_number number link = link.number == number
+
+abbrev pub without_number : ℕ → List NumberedLink → List NumberedLink
+without_number number links = filter (λ link. not (link.number == number)) links
+
+-- no number stands twice
+abbrev pub AreDistinct : List ℕ → Type 0
+AreDistinct [] = Unit {0}
+AreDistinct (link ∷ others) = (contains link others ≡ false) × AreDistinct others
+
+-- Links of a record are asked in their order, up to the first that has something to say.
+abbrev pub ReadsFirst : List Item → List ℕ → Option Coming → List NumberedLink → Type 0
+ReadsFirst past links None new = (due_arrival links past ≡ None) × (new ≡ map (link_of past) links)
+ReadsFirst past links (Some found) new =
+    (due_arrival links past ≡ Some (Comes found.link found.said)) × (contains found.link links ≡ true)
+    × (found.asked ≡ option_map asked_for (asked_on found.link past))
+    × (new ≡ map (link_of (Comes found.link found.said ∷ past)) links)
+
+-- Sending
+
+-- what is sent for a purpose
+abbrev pub IsSending : Asked → List ℕ → Kind → Purpose → Type 0
+IsSending asked payload kind purpose = (asked_for purpose ≡ asked) × (sent_for purpose ≡ payload) × (kind_of purpose ≡ kind)
+
+-- commands of the client go on links that are prepared
+abbrev pub needs_prepared : Asked → Bool
+needs_prepared Preamble = false
+needs_prepared ACommand = true
+
+abbrev pub MayBeSent : Asked → NumberedLink → Type 0
+MayBeSent asked link = (link.is_up ≡ needs_prepared asked) × IsReady link.link
+
+-- something is sent on a link, or isn't
+abbrev pub GoesOut : Asked → List ℕ → Kind → (old : NumberedLink) → Bool → (new : NumberedLink) → Type 0
+GoesOut asked payload kind old true new =
+    MayBeSent asked old × (new ≡ record old { asked = Some asked; link = new.link })
+    × (old.link ≡ kept Rests → new.link ≡ kept (sent payload (Some kind)))
+GoesOut asked payload kind old false new = (MayBeSent asked old → ⊥) × (new ≡ old)
+
+-- Something is sent on a link of a record that is free for it, or isn't sent.
+abbrev pub can_go_on : ℕ → Purpose → List Item → List ℕ → Bool
+can_go_on number purpose past links =
+    contains number links
+    && (is_same (needs_prepared (asked_for purpose)) (is_up number past) && is_ready (linked number past))
+
+abbrev pub SendsOn : ℕ → Purpose → List Item → List ℕ → Bool → List NumberedLink → Type 0
+SendsOn number purpose past links true new =
+    (can_go_on number purpose past links ≡ true) × (new ≡ map (link_of (Puts (Sends number purpose) ∷ past)) links)
+SendsOn number purpose past links false new =
+    (can_go_on number purpose past links ≡ false) × (new ≡ map (link_of past) links)
+
+-- What is heard
+
+-- it is the end of a reply without an error
+abbrev pub is_whole : LinkStep → Bool
+is_whole (steps.Part payload role (Ends (Done status)) next behind) = true
+is_whole _ = false
+
+abbrev pub is_preamble : Option Asked → Bool
+is_preamble (Some Preamble) = true
+is_preamble _ = false
+
+-- the whole reply to its preamble, without an error, prepares a link
+abbrev pub prepares : LinkStep → Option Asked → Bool → Bool
+prepares said asked before = if (is_whole said && is_preamble asked) then true else before
+
+-- A new link of a record counts as ready, or there is none of this number.
+abbrev pub ReadiesOn : ℕ → List Item → List ℕ → Bool → List NumberedLink → Type 0
+ReadiesOn number past links true new =
+    ((contains number links && is_new (linked number past)) ≡ true)
+    × (new ≡ map (link_of (LinkReady number ∷ past)) links)
+ReadiesOn number past links false new =
+    ((contains number links && is_new (linked number past)) ≡ false) × (new ≡ map (link_of past) links)

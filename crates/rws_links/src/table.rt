@@ -1,0 +1,240 @@
+//! The links of a session, in a table.
+//!
+//! What a link is and does is said by `rws_link`, and what of it is kept, as a function of a record, by `link_of` of
+//! specs/Links.antt. The table of a record is `link_of` of each of its links.
+ghost use Rattle.std.specs.Prelude.{◌≡◌, ◌==◌, ◌<◌, ◌&&◌, ◌∷◌, ◌++◌, [], List, None, ℕ, IfOk, IfSome, OnErr, OnOk, MatchOption, length, map, true, if◌then◌else◌};
+ghost use Rattle.std.specs.List.{list_any, position};
+ghost use Rattle.rws_wire.specs.Packets.{spelling};
+ghost use Rattle.rws_link.specs.Stepping.{Rests};
+ghost use Rattle.rws_link.specs.Linking.{is_awaiting, kept};
+ghost use Rattle.rws_record.specs.Item.{Item, Purpose};
+ghost use Rattle.rws_record.specs.Item.Item.{LinkBytes};
+ghost use Rattle.rws_record.specs.Item.Purpose.{Asks};
+ghost use Rattle.rws_links.specs.Links.{link_of, new_link, number_of};
+ghost use Rattle.rws_links.specs.Table.{AreDistinct, IsSending, ReadiesOn, ReadsFirst, SendsOn, has_number, without_number};
+
+use crate::coming::read_first;
+use crate::{Asked, Coming, LinkLogin, NumberedLink};
+use rws_link::Link;
+use rws_native::Login;
+use rws_record::Command;
+use rws_reply::Kind;
+use rws_wire::Text;
+use std::alloc::{AllocError, Global};
+use std::marker::Model;
+
+/// The links that a session has, in the order in which they were opened.
+///
+/// Numbers are given once, and rise: the order is that of the numbers, and no number stands twice. A clause that speaks of a
+/// record asks for the latter of the record's links, and each legal record has it.
+///
+/// `Err` is want of memory. The table then has the same links by number as before, and nothing more is known of them.
+#[derive(Drop)]
+pub struct LinkTable {
+    links: Vec<NumberedLink>,
+}
+
+impl Model for LinkTable {
+    ghost use Rattle.std.specs.Prelude.{List};
+    ghost use Rattle.rws_links.specs.declared.numbered.NumberedLink.{NumberedLink};
+
+    ghost Value = { List NumberedLink };
+
+    ghost view = { λ t. t.links.items };
+}
+
+impl LinkTable {
+    /// A table of one link, to a server of the settings, that is ready for commands.
+    pub fn begin(alloc: Global, number: u64, server: u8) -> Result<LinkTable, AllocError>
+        ensures { IfOk result (λ table. table ≡ record { number = number; server = server; is_up = true; asked = None; link = kept Rests } ∷ []) }
+    {
+        let mut links = Vec::new(alloc);
+        links.push(NumberedLink {
+            number,
+            server,
+            is_up: true,
+            asked: None,
+            link: ready_link(alloc)?,
+        })?;
+        Ok(LinkTable { links })
+    }
+
+    /// A table of no links, which takes no memory.
+    pub fn new(alloc: Global) -> LinkTable
+        ensures { result ≡ [] }
+    {
+        LinkTable {
+            links: Vec::new(alloc),
+        }
+    }
+
+    /// A link to a server of the settings is opened, behind the others: it is to log in so, and isn't prepared. Numbers are given
+    /// once, so none has this one; one that had it would be taken away.
+    pub fn open(
+        &mut self,
+        alloc: Global,
+        number: u64,
+        server: u8,
+        login: &LinkLogin,
+    ) -> Result<(), AllocError>
+        ensures ok { OnOk result (self.new ≡ without_number number self.old ++ new_link number server login.now ∷ []) }
+        ensures err { OnErr result (map number_of self.new ≡ map number_of self.old) }
+    {
+        let link = login.link(alloc)?;
+        self.links.reserve(1)?;
+        self.links.retain(|link| !(link.number == number));
+        self.links.push(NumberedLink {
+            number,
+            server,
+            is_up: false,
+            asked: None,
+            link,
+        })?;
+        Ok(())
+    }
+
+    /// A link counts as ready for commands, if it is there and no byte came on it yet, and the answer is whether it was so.
+    pub fn ready(&mut self, number: u64) -> bool
+        ensures { (past : List Item) (links : List ℕ) → self.old ≡ map (link_of past) links → AreDistinct links
+            → ReadiesOn number past links result self.new }
+    {
+        match self.place(number) {
+            None => false,
+            Some(at) => {
+                let link = &mut self.links[at];
+                link.ready()
+            }
+        }
+    }
+
+    /// The links themselves, in order of number.
+    pub fn as_slice(&self) -> &[NumberedLink]
+        ensures { result.now ≡ self.now }
+    {
+        self.links.as_slice()
+    }
+
+    /// The place of the link of this number.
+    fn place(&self, number: u64) -> Option<usize>
+        ensures place { result ≡ position (has_number number) self.now }
+        ensures within { IfSome result (λ at. at < length self.now) }
+    {
+        self.links.iter().position(|link| link.number == number)
+    }
+
+    /// The table has a link of this number.
+    pub fn has(&self, number: u64) -> bool
+        ensures { result ≡ list_any (λ link. link.number == number) self.now }
+    {
+        self.links.iter().any(|link| link.number == number)
+    }
+
+    /// The table has a link of this number, and a reply is awaited there.
+    pub fn awaits(&self, number: u64) -> bool
+        ensures { result ≡ list_any (λ link. link.number == number && is_awaiting link.link) self.now }
+    {
+        self.links
+            .iter()
+            .any(|link| link.number == number && link.link.is_awaiting())
+    }
+
+    /// Bytes came on a link: it holds them until it is read. On a link that isn't there they change nothing.
+    pub fn feed(&mut self, number: u64, bytes: &[u8]) -> Result<(), AllocError>
+        ensures ok { (past : List Item) (links : List ℕ) → self.old ≡ map (link_of past) links → AreDistinct links
+            → OnOk result (self.new ≡ map (link_of (LinkBytes number bytes.now ∷ past)) links) }
+        ensures err { OnErr result (map number_of self.new ≡ map number_of self.old) }
+    {
+        match self.place(number) {
+            None => Ok(()),
+            Some(at) => {
+                let link = &mut self.links[at];
+                link.feed(bytes)
+            }
+        }
+    }
+
+    /// Sends something on a link, which a reply of this kind answers, if the link is there and may be sent it; the answer is whether
+    /// it was. A command goes on a link that is prepared, the preamble on one that isn't, both on one that has logged in and
+    /// owes no reply. What goes out is appended to `out`, as packets from the number 0 on.
+    pub fn send(
+        &mut self,
+        number: u64,
+        asked: Asked,
+        payload: &[u8],
+        kind: Kind,
+        out: &mut Vec<u8>,
+    ) -> Result<bool, AllocError>
+        ensures ok { (purpose : Purpose) (past : List Item) (links : List ℕ) → IsSending asked payload.now kind purpose
+            → self.old ≡ map (link_of past) links → AreDistinct links
+            → IfOk result (λ went. SendsOn number purpose past links went self.new) }
+        ensures out { IfOk result (λ went. out.new.items ≡ out.old.items ++ (if went then spelling 0 payload.now else [])) }
+        ensures numbers { map number_of self.new ≡ map number_of self.old }
+    {
+        match self.place(number) {
+            None => Ok(false),
+            Some(at) => {
+                let link = &mut self.links[at];
+                link.send(asked, payload, kind, out)
+            }
+        }
+    }
+
+    /// Sends a command of the client on a link, if that is there and may be sent one; the answer is whether it was.
+    pub fn send_command(
+        &mut self,
+        number: u64,
+        command: &Command,
+        out: &mut Vec<u8>,
+    ) -> Result<bool, AllocError>
+        ensures ok { (past : List Item) (links : List ℕ) → self.old ≡ map (link_of past) links → AreDistinct links
+            → IfOk result (λ went. SendsOn number (Asks command.now) past links went self.new) }
+        ensures out { IfOk result (λ went. out.new.items ≡ out.old.items ++ (if went then spelling 0 command.now.payload else [])) }
+        ensures numbers { map number_of self.new ≡ map number_of self.old }
+    {
+        let payload = command.payload.as_slice();
+        self.send(number, Asked::Command, payload, command.kind, out)
+    }
+
+    /// A link is lost, or given up: it is taken away, and what it holds is forgotten.
+    pub fn remove(&mut self, number: u64)
+        ensures { self.new ≡ without_number number self.old }
+    {
+        self.links.retain(|link| !(link.number == number));
+    }
+
+    /// Takes the first link away; the answer is its number. It takes no memory.
+    pub fn take_first(&mut self) -> Option<u64>
+        ensures { MatchOption result ((self.old ≡ []) × (self.new ≡ [])) (λ number. map number_of self.old ≡ number ∷ map number_of self.new) }
+    {
+        if self.links.is_empty() {
+            return None;
+        }
+        Some(self.links.remove(0).number)
+    }
+
+    /// Asks the links in order of number, up to the first that has something to say. What it says is taken out of it: a whole reply
+    /// without an error to the preamble has prepared it then.
+    pub fn read(&mut self) -> Result<Option<Coming>, AllocError>
+        ensures ok { (past : List Item) (links : List ℕ) → self.old ≡ map (link_of past) links → AreDistinct links
+            → IfOk result (λ found. ReadsFirst past links found self.new) }
+        ensures numbers { map number_of self.new ≡ map number_of self.old }
+    {
+        read_first(self.links.as_mut_slice())
+    }
+}
+
+/// A link that counts as logged in. It never logs in, so its login names nobody.
+fn ready_link(alloc: Global) -> Result<Link, AllocError>
+    ensures { IfOk result (λ link. link ≡ kept Rests) }
+{
+    let nobody = Login {
+        user: Text::empty(alloc),
+        stage1: None,
+        database: None,
+        charset: 0,
+        flags: 0,
+    };
+    let mut link = Link::new(alloc, &nobody)?;
+    link.ready();
+    Ok(link)
+}

@@ -1,5 +1,0 @@
-use Rattle.std.proofs.Common.{length}
-use Rattle.rws_session.proofs.links.+read_first.Given as goal
-
-abbrev pub decreases-read_first : goal.decreases-read_first
-decreases-read_first l = length l.links.now

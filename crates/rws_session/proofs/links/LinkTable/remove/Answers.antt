@@ -1,8 +1,0 @@
-use Rattle.std.specs.Prelude.{not, ◌==◌}
-use Rattle.rws_session.specs.declared.links.NumberedLink.{NumberedLink}
-use Rattle.std.proofs.Common.{rules}
-use Rattle.std.proofs.lemmas.Fn.{filter_same}
-use Rattle.rws_session.proofs.links.LinkTable.remove.Goals as goal
-
-pub returns : goal.returns
-returns c = rw (← c.self.view_is) (filter_same _ (λ (link : NumberedLink). not (link.number == c.args.number)) _ (λ x b f' k. search rules) _ _ c.retain.ensures.filtered)

@@ -1,7 +1,0 @@
-use Rattle.std.proofs.Common.{refl, sym}
-use Rattle.rws_record.specs.Item.Purpose.{Asks}
-use Rattle.rws_session.proofs.links.LinkTable.send_command.Goals as goal
-
-pub returns-clause-ok : goal.returns-clause-ok
-returns-clause-ok c = λ past links are distinct.
-    c.send.ensures.ok (Asks c.args.command.now) past links (refl, sym c.as_slice-payload.ensures, refl) are distinct
