@@ -1,6 +1,6 @@
 -- What the worker stands for where a session begins, or was to begin.
-use Rattle.std.proofs.Common.{◌≡◌, ◌==◌, ℕ, ◌+◌, ◌<◌, ⊎_elim, max, Bool, true, false, not, List, [], ◌∷◌, ◌++◌, map, refl, sym, ap, subst, ◌∙◌, Option, Some, None, arith, nat_lt, if◌then◌else◌}
-use Rattle.std.proofs.lemmas.Bool.{cases_eq, eq-eqb, ne_eqb, lt-ltb}
+use Rattle.std.proofs.Common.{◌≡◌, ℕ, ◌+◌, ◌<◌, ⊎_elim, max, Bool, true, false, not, List, [], ◌∷◌, ◌++◌, map, refl, sym, ap, subst, ◌∙◌, Option, Some, None, arith}
+use Rattle.std.proofs.lemmas.Bool.{cases_eq, eq-eqb, ne_eqb}
 use Rattle.std.proofs.lemmas.List.{append-nil}
 use Rattle.std.specs.BTreeMap.{BTreeMap, get}
 use Rattle.std.specs.Ordering.{nat_cmp}
@@ -15,30 +15,30 @@ use Rattle.rws_board.specs.declared.interaction.Interaction.TheVariants.{Took}
 use Rattle.rws_board.specs.Boards.{given}
 use Rattle.rws_config.specs.declared.config.Config.{Config}
 use Rattle.rws_record.specs.Item.{Item}
-use Rattle.rws_record.specs.Item.Item.{Accepted, TurnsAway, Began, Starves}
-use Rattle.rws_record.specs.Values.{asking, contains, is_over, is_starved, links, opens}
+use Rattle.rws_record.specs.Item.Item.{Accepted, TurnsAway, Began}
+use Rattle.rws_record.specs.Values.{asking, contains, is_over, is_starved, links}
 use Rattle.rws_record.specs.Rules.{next}
-use Rattle.rws_record.specs.Record.{CanBeMade, IsBeginning, want_number}
+use Rattle.rws_record.specs.Record.{IsBeginning, want_number}
 use Rattle.rws_record.specs.Run.{Entry, begun_by, greatest, is_live, last_link, owner, record_of, told_by}
 use Rattle.rws_record.specs.Run.Entry.{Came, Heard}
 use Rattle.rws_record.proofs.OpeningLemmas.{is_answered, plain_unless_answered}
+use Rattle.rws_record.proofs.EntryLemmas.{told_no_round}
 use Rattle.rws_record.proofs.RecordLemmas.{each_of}
-use Rattle.rws_session.specs.Kept.{Is, Kept, Stands, Starts}
-use Rattle.rws_worker.specs.declared.ahead.Ahead.{Ahead}
+use Rattle.rws_session.specs.Kept.{Is, Kept, Stands}
 use Rattle.rws_worker.specs.declared.ahead.Ahead.TheVariants.{Nothing, Unmade}
 use Rattle.rws_worker.specs.declared.worker.Worker.{Worker}
 use Rattle.rws_worker.specs.declared.worker.telling.TurnEnd.{TurnEnd}
-use Rattle.rws_worker.specs.Stepping.{IsIdle, actions_ahead, drops, is_going}
-use Rattle.rws_worker.specs.Standing.{interactions_of, holds, Advances, IsSeated, SeatStands, WorkerStands}
+use Rattle.rws_worker.specs.Stepping.{IsIdle, drops}
+use Rattle.rws_worker.specs.Standing.{interactions_of, holds, Advances, SeatStands, WorkerStands}
 use Rattle.rws_worker.specs.InTurn.{InTurn}
-use Rattle.rws_worker.specs.Telling.{Begins, BeginsWithout, Changes, GoesOnSo, Places, Seats, SettlesSo}
+use Rattle.rws_worker.specs.Telling.{Begins, BeginsWithout, GoesOnSo, Places, SettlesSo}
 use Rattle.rws_worker.proofs.EndLemmas.{settled}
 use Rattle.rws_worker.proofs.EventLemmas.{Told, hears, tells}
 use Rattle.rws_worker.proofs.MapLemmas.{then_changes}
-use Rattle.rws_worker.proofs.RecordLemmas.{heard_apart, heard_here, none_some, some_same}
+use Rattle.rws_worker.proofs.RecordLemmas.{heard_apart, heard_here, some_same}
 use Rattle.rws_worker.proofs.StepsLemmas.{idle_goes_none, idle_has_none, unmade_does, unmade_without_does}
-use Rattle.rws_worker.proofs.TurnLemmas.{Reaches, forgets, idle_so, keeps, moved, seat_kept, wants}
-use Rattle.rws_worker.proofs.WantLemmas.{Finished, unmade_ends}
+use Rattle.rws_worker.proofs.TurnLemmas.{forgets, keeps, moved, seat_kept, wants}
+use Rattle.rws_worker.proofs.WantLemmas.{unmade_ends}
 
 -- What a beginning is
 
@@ -99,7 +99,7 @@ module _ {config : Config} {run : List Entry} {event : Event} {session : ℕ} {i
     begun_without : InTurn config run event session old true start []
     begun_without =
         hears config (record old { greatest = greatest run }) run event session item b.stands
-        (record { nothing = b.idle.nothing; unbroken = b.idle.unbroken; unclosed = b.idle.unclosed }) its.1 b.told old.greatest greatest_is
+        (record { nothing = b.idle.nothing; unbroken = b.idle.unbroken; unclosed = b.idle.unclosed; unobserved = b.idle.unobserved }) its.1 b.told old.greatest greatest_is
         (λ link has. let clash : false ≡ true = rw unborn at has in absurd cc)
 
     pub begins_without : (placed later new : Worker) (p : Places config session item old placed)
@@ -123,8 +123,8 @@ module _ {config : Config} {run : List Entry} {event : Event} {session : ℕ} {i
         forgets r.turn sessions Nothing (Some session) (Some session) (ap is_over r.here ∙ f.over) (ap (next config) r.here ∙ f.rests)
         (ap asking r.here ∙ f.unasking)
         (record { here = same session ∙ empty_seat; apart = λ other apart. same other })
-        (unmade_without_does (record old { sessions = sessions; ahead = Nothing; broken = Some session; closing = Some session }) session refl refl refl
-        ∙ ap (λ (list : List ℕ). Close session Memory ∷ drops list) (sym (starts_linkless item its)))
+        (unmade_without_does (record old { sessions = sessions; ahead = Nothing; broken = Some session; closing = Some session }) session refl refl refl b.idle.unobserved
+        ∙ ap (λ (list : List ℕ). map Took (Close session Memory ∷ drops list)) (sym (starts_linkless item its)))
 
 -- On the next link
 
@@ -168,6 +168,7 @@ module _ {config : Config} {run : List Entry} {event : Event} {session server : 
     legal = heard.legal;
     hears = refl;
     told = heard.told;
+    observed = told_no_round config event run (session, item) [] b.told;
     live = subst (λ (p : List Item). is_live p ≡ not (is_over p)) (sym (at b)) refl;
     others = λ other apart. seat_kept config other (get nat_cmp old.sessions other) run begun
         (heard_apart session other item (Came event ∷ run) apart) (b.stands.seats other);
@@ -192,7 +193,7 @@ module _ {config : Config} {run : List Entry} {event : Event} {session server : 
     begun = greatest_is b;
     heard = refl;
     did = ap (λ (xs : List Interaction). interactions_of run ++ xs) (sym (append-nil (given event)));
-    idle = record { nothing = b.idle.nothing; unbroken = b.idle.unbroken; unclosed = b.idle.unclosed };
+    idle = record { nothing = b.idle.nothing; unbroken = b.idle.unbroken; unclosed = b.idle.unclosed; unobserved = b.idle.unobserved };
   }
     where
       not_its : (other : ℕ) → (link ≡ other → ⊥) → contains other (link ∷ []) ≡ true → ⊥
@@ -212,7 +213,7 @@ module _ {config : Config} {run : List Entry} {event : Event} {session server : 
       (keeps u kept old.ahead (subst (λ (past : List Item). Stands config kept past) (sym (at b)) stands) p.starts.number
       (ap is_over (at b)) p.sessions.here
       (idle_has_none (record worker { sessions = new.sessions })
-      (record { nothing = b.idle.nothing; unbroken = b.idle.unbroken; unclosed = b.idle.unclosed }))
+      (record { nothing = b.idle.nothing; unbroken = b.idle.unbroken; unclosed = b.idle.unclosed; unobserved = b.idle.unobserved }))
       (λ _. p.starts.outs))
 
   -- memory was wanting for it
@@ -226,8 +227,8 @@ module _ {config : Config} {run : List Entry} {event : Event} {session server : 
       forgets r.turn sessions (Unmade (old.last_link + 1)) (Some session) (Some session) (ap is_over r.here ∙ f.over)
       (ap (next config) r.here ∙ f.rests) (ap asking r.here ∙ f.unasking)
       (record { here = same session ∙ empty_seat b; apart = λ other apart. same other })
-      (unmade_does now session (old.last_link + 1) refl refl refl
-      ∙ ap (λ (l : ℕ). Close session Memory ∷ Drop l End ∷ []) same_link)
+      (unmade_does now session (old.last_link + 1) refl refl refl b.idle.unobserved
+      ∙ ap (λ (l : ℕ). map Took (Close session Memory ∷ Drop l End ∷ [])) same_link)
 
 -- The worker is told to begin a session
 
@@ -245,7 +246,7 @@ begins_so config old run event session item w idle above begun told = record {
     links = w.links;
     begun = refl;
   };
-  idle = record { nothing = idle.nothing; unbroken = idle.unbroken; unclosed = idle.unclosed };
+  idle = record { nothing = idle.nothing; unbroken = idle.unbroken; unclosed = idle.unclosed; unobserved = idle.unobserved };
   above = let g = w.begun in omega arith;
   begun = begun;
   noted = refl;

@@ -1,5 +1,5 @@
 -- How many sessions are open: as many as the worker keeps.
-use Rattle.std.proofs.Common.{◌≡◌, ◌==◌, ℕ, suc, ◌≤◌, inl, inr, ⊎_elim, Bool, true, false, List, [], ◌∷◌, ◌++◌, filter, length, refl, sym, ap, subst, ◌∙◌, Option, Some, None, is_some, arith, cond, ◌&&◌, ◌||◌, ◌⊎◌, if◌then◌else◌}
+use Rattle.std.proofs.Common.{◌≡◌, ◌==◌, ℕ, suc, inl, inr, ⊎_elim, Bool, true, false, List, [], ◌∷◌, ◌++◌, filter, length, refl, sym, ap, subst, ◌∙◌, Option, Some, None, is_some, arith, cond, ◌&&◌, ◌||◌, ◌⊎◌, if◌then◌else◌}
 use Rattle.std.proofs.lemmas.Bool.{cases_eq, eqb-true}
 use Rattle.std.proofs.lemmas.Cmp.{eq_by_cmp_equiv, nat_cmp_total}
 use Rattle.std.proofs.lemmas.List.{append-nil}
@@ -9,7 +9,7 @@ use Rattle.std.proofs.lemmas.Map.Made.{length-le_from_is_member}
 use Rattle.std.proofs.lemmas.Map.Views.{any-filter_same}
 use Rattle.std.specs.BTreeMap.{BTreeMap, IsOrdered, get, is_at, keys}
 use Rattle.std.specs.Cmp.{unsigned_tied}
-use Rattle.std.specs.List.{AllByRecursion, IsDistinct, list_any}
+use Rattle.std.specs.List.{AllByRecursion, IsDistinct}
 use Rattle.std.specs.Ordering.{eq_by_cmp, nat_cmp}
 use Rattle.std.specs.Set.{is_member}
 use Rattle.std.specs.Map.{keys_of, lookup}
@@ -21,7 +21,7 @@ use Rattle.rws_record.specs.Run.{Entry, IsRun, begins_session, begun, hearer, is
 use Rattle.rws_record.specs.Run.Entry.{Heard, Did}
 use Rattle.rws_record.specs.Run.IsRun.{starts, came, goes_on, starves}
 use Rattle.rws_record.proofs.EntryLemmas.{Next, of_next_entry}
-use Rattle.rws_record.proofs.EntryLemmas.Next.{did, answered, heard}
+use Rattle.rws_record.proofs.EntryLemmas.Next.{did, answered, heard, observes}
 use Rattle.rws_record.proofs.RecordLemmas.{Hearable, each_of, first_of, one_more}
 use Rattle.rws_record.proofs.RecordLemmas.Hearable.{begins_it, comes_in}
 use Rattle.rws_session.specs.Kept.{Kept}
@@ -199,6 +199,7 @@ next_known {run = run} legal (did {session = session} {item = item} h n) k = did
 next_known {run = run} legal (answered {session = session} h a) k = did_known run session _ h k
 next_known {run = run} legal (heard {session = session} {item = item} quiet none u) k =
     heard_known run session item (first_of (each_of legal).tells u).hearable k
+next_known legal (observes quiet none u o) k = record { some = k.some; only = k.only; distinct = k.distinct; its = k.its }
 
 known : {config : Config} {run : List Entry} → IsRun config run → Known run
 unfolding IsDistinct

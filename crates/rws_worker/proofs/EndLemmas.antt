@@ -1,39 +1,38 @@
 -- How a session's turn ends, and what the worker stands for then.
-use Rattle.std.proofs.Common.{◌≡◌, ◌==◌, ℕ, ◌+◌, Bool, true, false, not, List, [], ◌∷◌, ◌++◌, map, refl, sym, ap, subst, ◌∙◌, Option, Some, None, arith, append_assoc}
+use Rattle.std.proofs.Common.{◌≡◌, ◌==◌, ℕ, ◌+◌, Bool, true, false, List, [], ◌∷◌, ◌++◌, map, refl, sym, ap, subst, ◌∙◌, Option, Some, None, arith}
 use Rattle.std.proofs.lemmas.Bool.{eq-eqb}
 use Rattle.std.specs.BTreeMap.{BTreeMap, get}
 use Rattle.std.specs.Ordering.{nat_cmp}
 use Rattle.rws_board.specs.declared.action.Action.{Action}
 use Rattle.rws_board.specs.declared.action.Action.TheVariants.{Open}
 use Rattle.rws_board.specs.declared.event.Event.{Event}
-use Rattle.rws_native.specs.declared.login.Login.{Login}
+use Rattle.rws_board.specs.declared.interaction.Interaction.TheVariants.{Took}
 use Rattle.rws_config.specs.declared.config.Config.{Config}
 use Rattle.rws_record.specs.Item.{Item, Put}
-use Rattle.rws_record.specs.Item.Item.{Routed, Puts, Starves}
+use Rattle.rws_record.specs.Item.Item.{Routed, Puts}
 use Rattle.rws_record.specs.Item.Put.{Opens as Opened}
 use Rattle.rws_record.specs.Outputs.{actions_of}
 use Rattle.rws_record.specs.Values.{asking, is_over, is_starved, links}
 use Rattle.rws_record.specs.Rules.{next, owed}
-use Rattle.rws_record.specs.Record.{GoesOn, IsInput, IsRecord, want_number}
-use Rattle.rws_record.specs.Record.IsRecord.{begins, steps, answers, hears, starves}
+use Rattle.rws_record.specs.Record.{IsInput, IsRecord, want_number}
+use Rattle.rws_record.specs.Record.IsRecord.{steps, answers, hears, starves}
 use Rattle.rws_record.specs.Run.{Entry, last_link, only_server, record_of}
 use Rattle.rws_record.specs.Run.Entry.{Did}
-use Rattle.rws_record.proofs.OpeningLemmas.{asks_open, asks_owing_nothing, goes_unasking_on, is_plain, plain_unless_answered}
+use Rattle.rws_record.proofs.OpeningLemmas.{asks_open, goes_unasking_on, is_plain, plain_unless_answered}
 use Rattle.rws_record.proofs.WantLemmas.{goes_on_starved}
 use Rattle.rws_session.specs.State.{State, farewell_packet, link_of, number_of, numbered, state_of}
-use Rattle.rws_session.specs.Kept.{Asking, Holds, Is, Kept, Lasting, Stands, lasting, lasting_of, numbers}
+use Rattle.rws_session.specs.Kept.{Asking, Is, Kept, Lasting, Stands, lasting, lasting_of}
 use Rattle.rws_session.specs.Turning.{BreaksOff, Opens, Settles}
 use Rattle.rws_worker.specs.declared.ahead.Ahead.{Ahead}
-use Rattle.rws_worker.specs.declared.ahead.Ahead.TheVariants.{Going, Over, Starved}
+use Rattle.rws_worker.specs.declared.ahead.Ahead.TheVariants.{Going}
 use Rattle.rws_worker.specs.declared.worker.Worker.{Worker}
 use Rattle.rws_worker.specs.declared.worker.telling.TurnEnd.{TurnEnd}
 use Rattle.rws_worker.specs.declared.worker.telling.TurnEnd.TheVariants as ends
-use Rattle.rws_worker.specs.Stepping.{actions_ahead, is_going, over_in, starved_in}
+use Rattle.rws_worker.specs.Stepping.{done_ahead, is_going, over_in, starved_in}
 use Rattle.rws_worker.specs.Standing.{Advances, SeatStands}
 use Rattle.rws_worker.specs.InTurn.{InTurn, Waits}
 use Rattle.rws_worker.specs.Telling.{Changes, EndsSo, Finishes, GoesOnSo, OpensNext, OpensNone, SettlesSo}
-use Rattle.rws_worker.proofs.MapLemmas.{then_changes}
-use Rattle.rws_worker.proofs.StepsLemmas.{broken_does, farewell_by, going_does, over_does, starved_does}
+use Rattle.rws_worker.proofs.StepsLemmas.{broken_does, going_does, over_does, starved_does}
 use Rattle.rws_worker.proofs.EventLemmas.{at_opened, opens_in}
 use Rattle.rws_worker.proofs.RecordLemmas.{none_some, unopened}
 use Rattle.rws_worker.proofs.TurnLemmas.{Reaches, forgets, idle_so, keeps, moved, reaches, wants}
@@ -76,7 +75,7 @@ module _ {config : Config} {before : List Entry} {event : Event} {session : ℕ}
 module _ {config : Config} {before : List Entry} {event : Event} {session : ℕ} {mid : Worker} {placed : Bool} {outs : List Action}
     (o : IsOver config before event session mid placed outs) where
   pub forgets_it : (sessions : BTreeMap ℕ Kept) (ahead : Ahead) (broken closing : Option ℕ) → Changes mid.sessions sessions session None
-      → actions_ahead (record mid { sessions = sessions; ahead = ahead; broken = broken; closing = closing }) ≡ outs
+      → done_ahead (record mid { sessions = sessions; ahead = ahead; broken = broken; closing = closing }) ≡ map Took outs
       → Advances config before event (record mid { sessions = sessions; ahead = ahead; broken = broken; closing = closing })
   forgets_it sessions ahead broken closing changes acts =
       let r = o.reached in
@@ -86,24 +85,25 @@ module _ {config : Config} {before : List Entry} {event : Event} {session : ℕ}
 module _ {config : Config} {before : List Entry} {event : Event} {session : ℕ} {mid : Worker} {placed : Bool} {last : Lasting}
     (kept : Kept) (lasts : lasting kept ≡ last) (farewell : last.farewell ≡ farewell_packet)
     (has : get nat_cmp mid.sessions session ≡ Some kept) (new : Worker) where
-  pub breaks_it : IsOver config before event session mid placed (given_by session false last) → Finishes ends.Breaks session mid new
-      → Advances config before event new
-  breaks_it o f =
+  pub breaks_it : IsOver config before event session mid placed (given_by session false last) → mid.observed ≡ None
+      → Finishes ends.Breaks session mid new → Advances config before event new
+  breaks_it o observed f =
       let ahead = starved_in (get nat_cmp mid.sessions session) in
       let now : Worker = record mid { sessions = new.sessions; ahead = ahead; broken = Some session; closing = Some session } in
       subst (λ (v : Worker). Advances config before event v) (sym f.1)
       (forgets_it o new.sessions ahead (Some session) (Some session) f.0
-      (broken_does now session kept (ap starved_in has) refl refl (ap (λ (l : Lasting). l.farewell) lasts ∙ farewell)
-      ∙ ap (given_by session false) lasts))
+      (broken_does now session kept (ap starved_in has) refl refl observed (ap (λ (l : Lasting). l.farewell) lasts ∙ farewell)
+      ∙ ap (λ (l : Lasting). map Took (given_by session false l)) lasts))
 
   pub starves_it : IsOver config before event session mid placed (given_by session true last) → mid.broken ≡ None → mid.closing ≡ None
-      → Finishes ends.Starves session mid new → Advances config before event new
-  starves_it o broken closing f =
+      → mid.observed ≡ None → Finishes ends.Starves session mid new → Advances config before event new
+  starves_it o broken closing observed f =
       let ahead = starved_in (get nat_cmp mid.sessions session) in
       let now : Worker = record mid { sessions = new.sessions; ahead = ahead } in
       subst (λ (v : Worker). Advances config before event v) (sym f.1)
       (forgets_it o new.sessions ahead mid.broken mid.closing f.0
-      (starved_does now session kept (ap starved_in has) broken closing ∙ ap (given_by session true) lasts))
+      (starved_does now session kept (ap starved_in has) broken closing observed
+      ∙ ap (λ (l : Lasting). map Took (given_by session true l)) lasts))
 
 -- The session went on from a record at which it was kept so
 
@@ -153,7 +153,7 @@ module _ {config : Config} {before : List Entry} {event : Event} {session : ℕ}
       subst (λ (v : Worker). Advances config before event v) (sym f)
       (keeps r.turn kept' (Going session) (subst (λ (past : List Item). Stands config kept' past) (sym r.here) s.stands)
       (s.number ∙ numbered_so) goes has
-      (going_does (record mid { ahead = Going session }) session kept' refl has t.idle.unbroken t.idle.unclosed) not_going)
+      (going_does (record mid { ahead = Going session }) session kept' refl has t.idle.unbroken t.idle.unclosed t.idle.unobserved) not_going)
   finished new ends.Ends e asked f =
       let s = e.0 in
       let o : IsOver config before event session mid true kept'.outs = record {
@@ -167,11 +167,11 @@ module _ {config : Config} {before : List Entry} {event : Event} {session : ℕ}
       let now : Worker = record mid { sessions = new.sessions; ahead = ahead } in
       subst (λ (v : Worker). Advances config before event v) (sym f.1)
       (forgets_it o new.sessions ahead mid.broken mid.closing f.0
-      (over_does now kept' (ap over_in has) t.idle.unbroken t.idle.unclosed))
+      (over_does now kept' (ap over_in has) t.idle.unbroken t.idle.unclosed t.idle.unobserved))
   finished new ends.Asks e asked f = asked refl e
-  finished new ends.Breaks e asked f = breaks_it kept' (lasts_so e.0) refl has new (broke_at false e.0 e.1) f
+  finished new ends.Breaks e asked f = breaks_it kept' (lasts_so e.0) refl has new (broke_at false e.0 e.1) t.idle.unobserved f
   finished new ends.Starves e asked f =
-      starves_it kept' (lasts_so e.0) refl has new (broke_at true e.0 e.1) t.idle.unbroken t.idle.unclosed f
+      starves_it kept' (lasts_so e.0) refl has new (broke_at true e.0 e.1) t.idle.unbroken t.idle.unclosed t.idle.unobserved f
 
   pub settled : (new : Worker) (end : TurnEnd) → EndsSo config start kept kept' end → SettlesSo config end session mid new
       → Advances config before event new
@@ -227,7 +227,8 @@ module _ {config : Config} {before : List Entry} {event : Event} {session : ℕ}
     answered =
         let link : ℕ = last_link w.now + 1 in
         let greatest_ : mid.greatest ≡ old.greatest = ap (λ (v : Worker). v.greatest) rest in
-        let idle_ = idle_so old mid w.turn.idle (ap (λ (v : Worker). v.ahead) rest) (ap (λ (v : Worker). v.broken) rest) (ap (λ (v : Worker). v.closing) rest) in
+        let idle_ = idle_so old mid w.turn.idle (ap (λ (v : Worker). v.ahead) rest) (ap (λ (v : Worker). v.broken) rest) (ap (λ (v : Worker). v.closing) rest)
+        (ap (λ (v : Worker). v.observed) rest) in
         let next_is = paid is.legal (Opened link only_server op.login) refl in
         let t1 = opens_in config before event session old mid w.now w.kept.outs op.login w.asks.login w.turn w.asks.asks next_is (Some o.kept) o.sessions o.owners o.links greatest_ idle_ in
         let at = at_opened config before event session old mid w.now w.kept.outs op.login w.asks.login w.turn w.asks.asks next_is (Some o.kept) o.sessions o.owners o.links greatest_ idle_ in
@@ -256,6 +257,7 @@ module _ {config : Config} {before : List Entry} {event : Event} {session : ℕ}
           legal = t.legal;
           hears = t.hears;
           told = t.told;
+          observed = t.observed;
           live = t.live;
           others = λ other apart. subst (λ (o : Option Kept). SeatStands config other o w.now) (sym (n.sessions.apart other apart)) (t.others other apart);
           fetched = λ other k apart e. t.fetched other k apart (sym (n.sessions.apart other apart) ∙ e);
@@ -268,11 +270,12 @@ module _ {config : Config} {before : List Entry} {event : Event} {session : ℕ}
           begun = ap (λ (v : Worker). v.greatest) rest ∙ t.begun;
           heard = t.heard;
           did = t.did;
-          idle = idle_so old mid t.idle (ap (λ (v : Worker). v.ahead) rest) (ap (λ (v : Worker). v.broken) rest) (ap (λ (v : Worker). v.closing) rest);
+          idle = idle_so old mid t.idle (ap (λ (v : Worker). v.ahead) rest) (ap (λ (v : Worker). v.broken) rest) (ap (λ (v : Worker). v.closing) rest)
+              (ap (λ (v : Worker). v.observed) rest);
         }
 
     pub unanswered : Advances config before event new
     unanswered =
         let past : List Item = record_of session w.now in
         breaks_it n.kept (n.holds ∙ lasting_is config session w.kept past w.numbered w.asks.is.mirrors) refl n.sessions.here new
-        (wants_at still refl w.fed false (asks_open w.asks.is.legal w.asks.asks)) f
+        (wants_at still refl w.fed false (asks_open w.asks.is.legal w.asks.asks)) still.idle.unobserved f

@@ -1,61 +1,53 @@
 -- What the worker stands for behind an event.
-use Rattle.std.proofs.Common.{◌≡◌, ◌==◌, ℕ, ◌+◌, ◌<◌, ⊎_elim, max, Bool, true, false, not, List, [], ◌∷◌, ◌++◌, map, refl, sym, ap, subst, ◌∙◌, Option, Some, None, arith, append_assoc}
+use Rattle.std.proofs.Common.{◌≡◌, ℕ, ◌+◌, ⊎_elim, max, true, not, List, [], ◌∷◌, ◌++◌, map, refl, sym, ap, subst, ◌∙◌, Option, Some, None, arith, append_assoc}
 use Rattle.std.proofs.lemmas.Bool.{cases_eq, eq-eqb, ne_eqb}
 use Rattle.std.proofs.lemmas.List.{append-nil}
-use Rattle.std.specs.BTreeMap.{BTreeMap, get}
+use Rattle.std.specs.BTreeMap.{get}
 use Rattle.std.specs.Ordering.{nat_cmp}
-use Rattle.rws_wire.specs.declared.close_reason.CloseReason.TheVariants.{Memory}
-use Rattle.rws_wire.specs.declared.drop_cause.DropCause.TheVariants.{End}
 use Rattle.rws_board.specs.declared.action.Action.{Action}
-use Rattle.rws_board.specs.declared.action.Action.TheVariants.{Close, Drop, Open}
+use Rattle.rws_board.specs.declared.action.Action.TheVariants.{Open}
 use Rattle.rws_board.specs.declared.event.Event.{Event}
+use Rattle.rws_board.specs.declared.event.Event.TheVariants as events
 use Rattle.rws_board.specs.declared.interaction.Interaction.{Interaction}
-use Rattle.rws_board.specs.declared.interaction.Interaction.TheVariants.{Took}
+use Rattle.rws_board.specs.declared.interaction.Interaction.TheVariants.{Took, Told as Tells}
 use Rattle.rws_board.specs.Boards.{given}
+use Rattle.rws_pool.specs.declared.events.PoolCall.TheVariants.{Observe}
+use Rattle.rws_pool.specs.declared.words.Round.{Round}
 use Rattle.rws_native.specs.declared.login.Login.{Login}
 use Rattle.rws_config.specs.declared.config.Config.{Config}
 use Rattle.rws_record.specs.Item.{Item}
-use Rattle.rws_record.specs.Item.Item.{Accepted, TurnsAway, Began, Routed, Puts}
+use Rattle.rws_record.specs.Item.Item.{Routed, Puts}
 use Rattle.rws_record.specs.Item.Put.{Opens as Opened}
-use Rattle.rws_record.specs.Values.{asking, contains, is_over, is_starved, links, opens, without}
-use Rattle.rws_record.specs.Rules.{after_route, due, next, next_by, owed, unless_asking}
-use Rattle.rws_record.specs.Record.{GoesOn, IsBeginning, want_number}
-use Rattle.rws_record.specs.Run.{Entry, IsRun, next_entry, record_of, is_live, begun_by, greatest, last_link, only_server, owner, told_by, untold, hearing}
-use Rattle.rws_record.specs.Run.Entry.{Came, Heard, Did}
+use Rattle.rws_record.specs.Values.{asking, contains, is_over, links, opens}
+use Rattle.rws_record.specs.Rules.{next, ◌or◌}
+use Rattle.rws_record.specs.Run.{Entry, IsRun, next_entry, record_of, is_live, begun_by, greatest, last_link, only_server, owner, observing, round_of, told_by, untold, hearing}
+use Rattle.rws_record.specs.Run.Entry.{Came, Heard, Did, Observes}
 use Rattle.rws_record.specs.Run.IsRun.{came, goes_on}
-use Rattle.rws_record.proofs.RecordLemmas.{each_of}
-use Rattle.rws_record.proofs.OpeningLemmas.{asks_open, asks_owing_nothing, goes_unasking_on, is_answered, is_plain, plain_unless_answered}
-use Rattle.rws_record.proofs.WantLemmas.{goes_on_starved}
-use Rattle.rws_session.specs.State.{State, farewell_packet, numbered, state_of}
-use Rattle.rws_session.specs.Kept.{Asking, Is, Kept, Lasting, Stands, lasting, lasting_of, numbers}
-use Rattle.rws_session.specs.Turning.{BreaksOff, Opens, Settles}
-use Rattle.rws_worker.specs.declared.ahead.Ahead.{Ahead}
-use Rattle.rws_worker.specs.declared.ahead.Ahead.TheVariants.{Going, Over, Starved}
+use Rattle.rws_record.proofs.EntryLemmas.{told_no_round}
+use Rattle.rws_session.specs.Kept.{Kept}
 use Rattle.rws_worker.specs.declared.worker.Worker.{Worker}
-use Rattle.rws_worker.specs.declared.worker.telling.TurnEnd.{TurnEnd}
-use Rattle.rws_worker.specs.declared.worker.telling.TurnEnd.TheVariants as ends
-use Rattle.rws_worker.specs.Stepping.{IsIdle, actions_ahead, drops, is_going, over_in, starved_in}
-use Rattle.rws_worker.specs.Standing.{interactions_of, holds, Advances, IsSeated, SeatStands, WorkerStands}
-use Rattle.rws_worker.specs.InTurn.{InTurn, Waits}
-use Rattle.rws_worker.specs.Telling.{Begins, BeginsWithout, Changes, EndsSo, Finishes, GoesOnSo, OpensNext, OpensNone, SettlesSo}
-use Rattle.rws_worker.proofs.RecordLemmas.{did_apart, did_here, did_owners, did_last, had_it, heard_apart, heard_here, heard_last, heard_owners, none_some, some_same, still_has, unopened}
-use Rattle.rws_worker.proofs.StepsLemmas.{broken_does, farewell_by, going_does, idle_goes_none, idle_has_none, over_does, starved_does}
-use Rattle.rws_worker.proofs.TurnLemmas.{Reaches, answer_at, further, forgets, idle_so, keeps, more_done, moved, reaches, rest_at, seat_kept, step_at, wants}
-use Rattle.rws_worker.proofs.WantLemmas.{Finished, ends_so, farewell_of, made_ends, over_ends}
+use Rattle.rws_worker.specs.Stepping.{IsIdle, done_ahead}
+use Rattle.rws_worker.specs.Standing.{interactions_of, holds, Advances, SeatStands, WorkerStands}
+use Rattle.rws_worker.specs.InTurn.{InTurn}
+use Rattle.rws_worker.specs.Telling.{Changes}
+use Rattle.rws_worker.proofs.RecordLemmas.{did_apart, did_here, had_it, heard_apart, heard_here, heard_last, heard_owners, some_same, still_has}
+use Rattle.rws_worker.proofs.StepsLemmas.{idle_goes_none, idle_has_none_behind}
+use Rattle.rws_worker.proofs.TurnLemmas.{answer_at, more_done, seat_kept, step_at}
 
 -- Nobody is told anything
 
 pub passes : (config : Config) (old new : Worker) (run : List Entry) (event : Event) → WorkerStands config old run
-    → told_by config event run ≡ [] → IsIdle old → actions_ahead new ≡ []
+    → told_by config event run ≡ [] → round_of config event ≡ None → IsIdle old → done_ahead new ≡ []
     → ((session : ℕ) → get nat_cmp new.sessions session ≡ get nat_cmp old.sessions session)
     → ((link : ℕ) → get nat_cmp new.owners link ≡ get nat_cmp old.owners link)
     → new.last_link ≡ old.last_link → new.greatest ≡ max (begun_by event) old.greatest
     → Advances config run event new
-passes config old new run event w told_none idle nothing sessions owners links_ begun = record {
+passes config old new run event w told_none no_round idle nothing sessions owners links_ begun = record {
   now = Came event ∷ run;
   stands = record {
     legal = came w.legal w.rests;
-    rests = ap hearing told_none;
+    rests = ap (λ (list : List (ℕ × Item)). hearing list or observing (round_of config event)) told_none
+        ∙ ap (λ (o : Option Round). observing o) no_round;
     seats = λ session. subst (λ (o : Option Kept). SeatStands config session o (Came event ∷ run)) (sym (sessions session))
         (seat_kept config session (get nat_cmp old.sessions session) run (Came event ∷ run) refl (w.seats session));
     fetched = λ session kept e _. w.fetched session kept (sym (sessions session) ∙ e) (idle_goes_none old idle session);
@@ -66,7 +58,31 @@ passes config old new run event w told_none idle nothing sessions owners links_ 
   };
   heard = refl;
   did = ap (λ (xs : List Interaction). interactions_of run ++ xs)
-      (sym (append-nil (given event)) ∙ ap (λ (xs : List Action). given event ++ map Took xs) (sym nothing));
+      (sym (append-nil (given event)) ∙ ap (λ (xs : List Interaction). given event ++ xs) (sym nothing));
+}
+
+-- A round is to be taken in
+
+pub takes_in : (config : Config) (old : Worker) (run : List Entry) (round : Round) → WorkerStands config old run
+    → round_of config (events.Observed round) ≡ Some round → IsIdle old
+    → Advances config run (events.Observed round) (record old { observed = Some round })
+takes_in config old run round w fits idle = record {
+  now = Observes round ∷ Came (events.Observed round) ∷ run;
+  stands = record {
+    legal = goes_on (came w.legal w.rests) (ap (λ (o : Option Round). observing o) fits);
+    rests = refl;
+    seats = λ session. seat_kept config session (get nat_cmp old.sessions session) run (Observes round ∷ Came (events.Observed round) ∷ run)
+        refl (w.seats session);
+    fetched = w.fetched;
+    owned = w.owned;
+    owns = w.owns;
+    links = w.links;
+    begun = let b = w.begun in omega arith;
+  };
+  heard = refl;
+  did = append_assoc (interactions_of run) (given (events.Observed round)) (Tells (Observe round) ∷ [])
+      ∙ ap (λ (xs : List Interaction). interactions_of run ++ (given (events.Observed round) ++ Tells (Observe round) ∷ xs))
+      (sym (idle_has_none_behind old idle));
 }
 
 -- A session hears an event
@@ -79,7 +95,7 @@ pub record Told (config : Config) (run : List Entry) (event : Event) (session : 
 pub tells : (config : Config) (run : List Entry) (event : Event) (session : ℕ) (item : Item) → IsRun config run
     → next_entry config run ≡ None → told_by config event run ≡ (session, item) ∷ [] → Told config run event session item
 tells config run event session item legal rests told_so = record {
-  legal = goes_on (came legal rests) (ap hearing told_so);
+  legal = goes_on (came legal rests) (ap (λ (list : List (ℕ × Item)). hearing list or observing (round_of config event)) told_so);
   told = rw told_so refl;
 }
 
@@ -102,6 +118,7 @@ module _ (config : Config) (old : Worker) (run : List Entry) (event : Event) (se
         legal = heard.legal;
         hears = refl;
         told = heard.told;
+        observed = told_no_round config event run (session, item) [] told_so;
         live = subst (λ (p : List Item). is_live p ≡ not (is_over p)) (sym here) refl;
         others = λ other apart. seat_kept config other (get nat_cmp old.sessions other) run start
             (heard_apart session other item (Came event ∷ run) apart) (w.seats other);
@@ -116,7 +133,7 @@ module _ (config : Config) (old : Worker) (run : List Entry) (event : Event) (se
         begun = greatest_is;
         heard = refl;
         did = ap (λ (xs : List Interaction). interactions_of run ++ xs) (sym (append-nil (given event)));
-        idle = record { nothing = idle.nothing; unbroken = idle.unbroken; unclosed = idle.unclosed };
+        idle = record { nothing = idle.nothing; unbroken = idle.unbroken; unclosed = idle.unclosed; unobserved = idle.unobserved };
       }
 
 -- The next link is opened for the session that asks
@@ -178,6 +195,7 @@ module _ (config : Config) (before : List Entry) (event : Event) (session : ℕ)
     legal = legal_now;
     hears = t.hears;
     told = t.told;
+    observed = t.observed;
     live = subst (λ (p : List Item). is_live p ≡ not (is_over p)) (sym at_opened) refl;
     others = λ other apart. subst (λ (o : Option Kept). SeatStands config other o opened_run) (sym (sessions.apart other apart))
         (seat_kept config other (get nat_cmp old.sessions other) now opened_run (apart_now other apart) (t.others other apart));

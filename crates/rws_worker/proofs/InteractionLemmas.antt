@@ -1,5 +1,5 @@
 -- What passes between a worker and its board in a run: the events that the run heard, and what it did.
-use Rattle.std.proofs.Common.{◌≡◌, ℕ, ◌≤◌, ◌⊎◌, inl, inr, arith, length, length-append, List, [], ◌∷◌, ◌++◌, map, refl, sym, ap, ◌∙◌, Option, Some, None, option_map}
+use Rattle.std.proofs.Common.{◌≡◌, ℕ, ◌≤◌, ◌⊎◌, inl, inr, arith, length, length-append, List, [], ◌∷◌, ◌++◌, map, refl, sym, ap, ◌∙◌, None}
 use Rattle.std.proofs.lemmas.List.{append-nil, append_cancel_right}
 use Rattle.std.specs.List.{flat_map}
 use Rattle.rws_board.specs.Boards.{events_given, given}
@@ -19,8 +19,7 @@ use Rattle.rws_config.specs.declared.config.Config.{Config}
 use Rattle.rws_record.specs.Item.{Item}
 use Rattle.rws_record.specs.Item.Item.{Starves}
 use Rattle.rws_record.specs.Outputs.{outs_of}
-use Rattle.rws_record.specs.Rules.{next, ◌or◌}
-use Rattle.rws_record.specs.Run.{Entry, IsRun, next_entry, record_of, step_of, hearer, hearing, untold, events_of, done_in, pool_events_of}
+use Rattle.rws_record.specs.Run.{Entry, IsRun, next_entry, record_of, events_of, done_in, pool_events_of}
 use Rattle.rws_record.specs.Run.Entry.{Came, Heard, Did, Observes}
 use Rattle.rws_record.specs.Run.IsRun.{starts, came, goes_on, starves}
 use Rattle.rws_record.proofs.EntryLemmas.{Next, of_next_entry}
@@ -56,7 +55,7 @@ given_is_left_out (events.Clock now_ms) = refl
 given_is_left_out (events.Observed round) = refl
 given_is_left_out events.End = refl
 
-given_tells_none : (event : Event) → events_told (given event) ≡ []
+pub given_tells_none : (event : Event) → events_told (given event) ≡ []
 given_tells_none (events.Accept session scramble) = refl
 given_tells_none (events.Begin session server) = refl
 given_tells_none (events.ClientBytes session bytes) = refl

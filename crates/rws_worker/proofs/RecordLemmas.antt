@@ -1,5 +1,5 @@
 -- What a run holds of each session and of each link, one entry further.
-use Rattle.std.proofs.Common.{◌≡◌, ◌==◌, ℕ, ◌<◌, Bool, true, false, not, List, [], ◌∷◌, ◌++◌, ◌+◌, refl, ◌∙◌, Option, Some, None, option_map, arith, if◌then◌else◌}
+use Rattle.std.proofs.Common.{◌≡◌, ◌==◌, ℕ, ◌<◌, Bool, true, false, not, List, [], ◌∷◌, ◌++◌, ◌+◌, refl, Option, Some, None, option_map, arith, if◌then◌else◌}
 use Rattle.std.proofs.lemmas.Bool.{ne_eqb, eq-eqb}
 use Rattle.rws_config.specs.declared.config.Config.{Config}
 use Rattle.rws_record.specs.Item.{Item}
@@ -11,7 +11,7 @@ use Rattle.rws_record.specs.Run.Entry.{Heard, Did}
 use Rattle.rws_record.specs.Run.IsRun.{starts, came, goes_on, starves}
 use Rattle.rws_record.proofs.StepLemmas.{of_next, input_opens_none}
 use Rattle.rws_record.proofs.EntryLemmas.{Next, of_next_entry}
-use Rattle.rws_record.proofs.EntryLemmas.Next.{did, answered, heard}
+use Rattle.rws_record.proofs.EntryLemmas.Next.{did, answered, heard, observes}
 use Rattle.rws_record.proofs.LinkLemmas.{none_opens, numbered_of, step_opens_next}
 use Rattle.rws_record.proofs.RecordLemmas.{Hearable, each_of, first_of}
 use Rattle.rws_record.proofs.RecordLemmas.Hearable.{begins_it, comes_in}
@@ -151,6 +151,7 @@ next_unopened {config} {run} legal (did {session = session} {item = item} h is_n
 next_unopened legal (answered h a) unopened link high = unopened link high
 next_unopened {run = run} legal (heard {session = session} {item = item} quiet none u) unopened link high =
     opens_unopened run session item (heard_opens_next run session (first_of (each_of legal).tells u).hearable) unopened link high
+next_unopened legal (observes quiet unasked u o) unopened link high = unopened link high
 
 pub unopened : {config : Config} {run : List Entry} → IsRun config run → Unopened run
 unopened starts link high = refl

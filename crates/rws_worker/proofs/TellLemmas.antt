@@ -1,17 +1,18 @@
 -- What is known where a session is looked up and told an input.
-use Rattle.std.proofs.Common.{◌≡◌, ℕ, ⊎_elim, max, Bool, true, false, not, List, [], ◌∷◌, ◌++◌, refl, sym, ap, subst, ◌∙◌, Option, Some, None, ◌&&◌, arith, if◌then◌else◌}
+use Rattle.std.proofs.Common.{◌≡◌, ℕ, ⊎_elim, Bool, true, false, not, List, [], ◌∷◌, map, refl, sym, ap, subst, ◌∙◌, Option, Some, None, ◌&&◌, arith, if◌then◌else◌}
 use Rattle.std.proofs.lemmas.Bool.{and_parts, cases_eq}
 use Rattle.std.specs.BTreeMap.{BTreeMap, get}
 use Rattle.std.specs.Ordering.{nat_cmp}
 use Rattle.rws_board.specs.declared.action.Action.{Action}
 use Rattle.rws_board.specs.declared.event.Event.{Event}
+use Rattle.rws_board.specs.declared.interaction.Interaction.TheVariants.{Took}
 use Rattle.rws_link.specs.Stepping.{LinkState, is_new}
 use Rattle.rws_config.specs.declared.config.Config.{Config}
 use Rattle.rws_record.specs.Item.{Item}
 use Rattle.rws_record.specs.Item.Item.{ClientBytes, LinkReady, LinkBytes, ClientGone, LinkLost}
-use Rattle.rws_record.specs.Values.{links, linked, contains, is_over, is_starved, opens}
+use Rattle.rws_record.specs.Values.{links, linked, contains, is_over, is_starved}
 use Rattle.rws_record.specs.Record.{IsInput}
-use Rattle.rws_record.specs.Run.{Entry, record_of, is_live, begun_by, greatest, if_so, owner, told_by, told_on, told_to}
+use Rattle.rws_record.specs.Run.{Entry, record_of, is_live, begun_by, if_so, round_of, told_by, told_on, told_to}
 use Rattle.rws_record.specs.Run.Entry.{Came, Heard}
 use Rattle.rws_record.proofs.OpeningLemmas.{is_answered, plain_unless_answered}
 use Rattle.rws_record.proofs.RecordLemmas.{contained}
@@ -174,7 +175,7 @@ not_true false no_ = refl
 
 module _ (config : Config) (old : Worker) (run : List Entry) (event : Event) (session : ℕ) (kept kept' : Kept)
     (w : WorkerStands config old run) (idle : IsIdle old) (found : get nat_cmp old.sessions session ≡ Some kept)
-    (none_begun : begun_by event ≡ 0) (sessions : BTreeMap ℕ Kept) (changes : Changes old.sessions sessions session (Some kept'))
+    (none_begun : begun_by event ≡ 0) (no_round : round_of config event ≡ None) (sessions : BTreeMap ℕ Kept) (changes : Changes old.sessions sessions session (Some kept'))
     (new : Worker) (end : TurnEnd) (settles : SettlesSo config end session (record old { sessions = sessions }) new) where
   abbrev past : List Item
   past = record_of session run
@@ -196,9 +197,9 @@ module _ (config : Config) (old : Worker) (run : List Entry) (event : Event) (se
       → Advances config run event new
   goes_same same nothing is =
       subst (λ (v : Worker). Advances config run event v) (sym is)
-      (passes config old (record old { sessions = sessions; ahead = Going session }) run event w nothing idle
-      (going_does (record old { sessions = sessions; ahead = Going session }) session kept' refl changes.here idle.unbroken idle.unclosed
-      ∙ ap (λ (k : Kept). k.outs) same ∙ empty)
+      (passes config old (record old { sessions = sessions; ahead = Going session }) run event w nothing no_round idle
+      (going_does (record old { sessions = sessions; ahead = Going session }) session kept' refl changes.here idle.unbroken idle.unclosed idle.unobserved
+      ∙ ap (λ (k : Kept). map Took k.outs) same ∙ ap (map Took) empty)
       (same_seats same) (λ _. refl) refl (let z = none_begun in omega arith))
 
   not_ended : {A : Type 0} → kept' ≡ kept → kept'.state.over ≡ true → A

@@ -1,26 +1,25 @@
 -- In the middle of an event: the session that heard it goes on.
-use Rattle.std.proofs.Common.{◌≡◌, ◌==◌, ℕ, ◌+◌, ⊎_elim, Bool, true, false, not, List, [], ◌∷◌, ◌++◌, map, refl, sym, ap, subst, ◌∙◌, Option, Some, None, option_map, arith, append_assoc}
-use Rattle.std.proofs.lemmas.Bool.{cases_eq, eq-eqb, ne_eqb, and_parts}
+use Rattle.std.proofs.Common.{◌≡◌, ℕ, ◌+◌, ⊎_elim, Bool, true, false, not, List, [], ◌∷◌, ◌++◌, map, refl, sym, ap, subst, ◌∙◌, Option, Some, None, option_map, append_assoc}
+use Rattle.std.proofs.lemmas.Bool.{cases_eq, and_parts}
 use Rattle.std.proofs.lemmas.List.{append-nil, append_cancel_left, map-append}
 use Rattle.std.specs.BTreeMap.{BTreeMap, get}
 use Rattle.std.specs.Ordering.{nat_cmp}
 use Rattle.rws_board.specs.declared.action.Action.{Action}
-use Rattle.rws_board.specs.declared.action.Action.TheVariants.{Open}
 use Rattle.rws_board.specs.declared.event.Event.{Event}
 use Rattle.rws_board.specs.declared.interaction.Interaction.{Interaction}
 use Rattle.rws_board.specs.declared.interaction.Interaction.TheVariants.{Took}
 use Rattle.rws_board.specs.Boards.{given}
+use Rattle.rws_pool.specs.declared.words.Round.{Round}
 use Rattle.rws_native.specs.declared.login.Login.{Login}
 use Rattle.rws_config.specs.declared.config.Config.{Config}
-use Rattle.rws_record.specs.Item.{Item, Put}
-use Rattle.rws_record.specs.Item.Item.{Routed, Puts, Starves}
-use Rattle.rws_record.specs.Item.Put.{Opens}
-use Rattle.rws_record.specs.Values.{asking, opens, links, contains, is_over, is_starved, without}
-use Rattle.rws_record.specs.Rules.{after_route, due, next, next_by, owed, unless_asking, ◌or◌}
+use Rattle.rws_record.specs.Item.{Item}
+use Rattle.rws_record.specs.Item.Item.{Routed, Starves}
+use Rattle.rws_record.specs.Values.{asking, opens, links, contains, is_over, is_starved}
+use Rattle.rws_record.specs.Rules.{due, next, next_by, owed, unless_asking, ◌or◌}
 use Rattle.rws_record.specs.Outputs.{actions_of, outs_of}
 use Rattle.rws_record.specs.Record.{CanBeMade, GoesOn, want_number}
 use Rattle.rws_record.specs.Record.GoesOn.{stays, then as goes}
-use Rattle.rws_record.specs.Run.{Entry, IsRun, answer_of, answering, next_entry, only_server, record_of, is_live, last_link, owner, untold, hearer, step_of, hearing}
+use Rattle.rws_record.specs.Run.{Entry, IsRun, answer_of, answering, next_entry, only_server, record_of, is_live, last_link, owner, observing, unobserved, untold, hearer, step_of, hearing}
 use Rattle.rws_record.specs.Run.Entry.{Did}
 use Rattle.rws_record.specs.Run.IsRun.{goes_on, starves}
 use Rattle.rws_record.proofs.OpeningLemmas.{goes_plainly, is_plain, plain_unless_answered, step_opens_none}
@@ -28,21 +27,25 @@ use Rattle.rws_record.proofs.StepLemmas.{of_next}
 use Rattle.rws_session.specs.Kept.{Kept, Stands}
 use Rattle.rws_worker.specs.declared.ahead.Ahead.{Ahead}
 use Rattle.rws_worker.specs.declared.worker.Worker.{Worker}
-use Rattle.rws_worker.specs.Stepping.{IsIdle, actions_ahead, is_going}
-use Rattle.rws_worker.specs.Standing.{interactions_of, holds, Advances, IsSeated, SeatStands}
+use Rattle.rws_worker.specs.Stepping.{IsIdle, done_ahead, is_going}
+use Rattle.rws_worker.specs.Standing.{interactions_of, holds, Advances, SeatStands}
 use Rattle.rws_worker.specs.InTurn.{InTurn}
 use Rattle.rws_worker.specs.Telling.{Changes}
-use Rattle.rws_worker.proofs.RecordLemmas.{did_apart, did_here, did_owners, did_last, had_it, none_some, some_same, still_has}
+use Rattle.rws_worker.proofs.RecordLemmas.{did_apart, did_here, did_owners, did_last, none_some, some_same, still_has}
 use Rattle.rws_worker.proofs.WantLemmas.{Finished}
 
 -- How a run goes on
+
+-- what comes where no session goes on
+abbrev pub last_entry : Config → List Entry → Option Entry
+last_entry config run = hearing (untold config run) or observing (unobserved config run)
 
 -- by a step of the session that heard of the last event
 pub step_at : (config : Config) (session : ℕ) (run : List Entry) (item : Item) → hearer run ≡ Some session
     → next config (record_of session run) ≡ Some item → next_entry config run ≡ Some (Did session item)
 step_at config session run item hears step =
-    ap (λ (o : Option ℕ). step_of config o run or (answer_of (hearer run) run or hearing (untold config run))) hears
-    ∙ ap (λ (o : Option Item). option_map {U = Entry} (λ (i : Item). Did session i) o or (answer_of (hearer run) run or hearing (untold config run))) step
+    ap (λ (o : Option ℕ). step_of config o run or (answer_of (hearer run) run or last_entry config run)) hears
+    ∙ ap (λ (o : Option Item). option_map {U = Entry} (λ (i : Item). Did session i) o or (answer_of (hearer run) run or last_entry config run)) step
 
 -- by the worker's answer
 pub answer_at : (config : Config) (session : ℕ) (run : List Entry) (login : Login) → hearer run ≡ Some session
@@ -52,19 +55,20 @@ answer_at config session run login hears asks =
     let past : List Item = record_of session run in
     let quiet : next config past ≡ None =
     ap (λ (o : Option Login). unless_asking o (next_by (owed past) (is_over past) (due config past))) asks in
-    ap (λ (o : Option ℕ). step_of config o run or (answer_of o run or hearing (untold config run))) hears
-    ∙ ap (λ (o : Option Item). option_map {U = Entry} (λ (i : Item). Did session i) o or (answer_of (Some session) run or hearing (untold config run))) quiet
-    ∙ ap (λ (o : Option Login). answering o session (last_link run) or hearing (untold config run)) asks
+    ap (λ (o : Option ℕ). step_of config o run or (answer_of o run or last_entry config run)) hears
+    ∙ ap (λ (o : Option Item). option_map {U = Entry} (λ (i : Item). Did session i) o or (answer_of (Some session) run or last_entry config run)) quiet
+    ∙ ap (λ (o : Option Login). answering o session (last_link run) or last_entry config run) asks
 
--- or it rests, where that session does and was answered, and nothing is left to be told
+-- or it rests, where that session does and was answered, and nothing is left to be told or taken in
 pub rest_at : (config : Config) (session : ℕ) (run : List Entry) → hearer run ≡ Some session
     → next config (record_of session run) ≡ None → asking (record_of session run) ≡ None → untold config run ≡ []
-    → next_entry config run ≡ None
-rest_at config session run hears rests unasking told =
-    ap (λ (o : Option ℕ). step_of config o run or (answer_of o run or hearing (untold config run))) hears
-    ∙ ap (λ (o : Option Item). option_map {U = Entry} (λ (i : Item). Did session i) o or (answer_of (Some session) run or hearing (untold config run))) rests
-    ∙ ap (λ (o : Option Login). answering o session (last_link run) or hearing (untold config run)) unasking
-    ∙ ap hearing told
+    → unobserved config run ≡ None → next_entry config run ≡ None
+rest_at config session run hears rests unasking told observed =
+    ap (λ (o : Option ℕ). step_of config o run or (answer_of o run or last_entry config run)) hears
+    ∙ ap (λ (o : Option Item). option_map {U = Entry} (λ (i : Item). Did session i) o or (answer_of (Some session) run or last_entry config run)) rests
+    ∙ ap (λ (o : Option Login). answering o session (last_link run) or last_entry config run) unasking
+    ∙ ap (λ (list : List (ℕ × Item)). hearing list or observing (unobserved config run)) told
+    ∙ ap (λ (o : Option Round). observing o) observed
 
 -- a session's seat stands on where its record stays
 pub seat_kept : (config : Config) (session : ℕ) (o : Option Kept) (run now : List Entry) → record_of session now ≡ record_of session run
@@ -76,11 +80,13 @@ seat_kept config session (Some kept) run now same s = record {
 }
 seat_kept config session None run now same s = ap is_live same ∙ s
 
-pub idle_so : (old new : Worker) → IsIdle old → new.ahead ≡ old.ahead → new.broken ≡ old.broken → new.closing ≡ old.closing → IsIdle new
-idle_so old new idle ahead broken closing = record {
+pub idle_so : (old new : Worker) → IsIdle old → new.ahead ≡ old.ahead → new.broken ≡ old.broken → new.closing ≡ old.closing
+    → new.observed ≡ old.observed → IsIdle new
+idle_so old new idle ahead broken closing observed = record {
   nothing = ahead ∙ idle.nothing;
   unbroken = broken ∙ idle.unbroken;
   unclosed = closing ∙ idle.unclosed;
+  unobserved = observed ∙ idle.unobserved;
 }
 
 pub more_done : (now before came : List Interaction) (outs more : List Action) → now ≡ before ++ (came ++ map Took outs)
@@ -104,6 +110,7 @@ module _ {config : Config} {before : List Entry} {event : Event} {session : ℕ}
         legal = legal;
         hears = t.hears;
         told = t.told;
+        observed = t.observed;
         live = subst (λ (p : List Item). is_live p ≡ not (is_over p)) (sym here) refl;
         others = λ other apart. seat_kept config other (get nat_cmp worker.sessions other) now (Did session item ∷ now)
             (did_apart session other item now apart) (t.others other apart);
@@ -127,6 +134,7 @@ module _ {config : Config} {before : List Entry} {event : Event} {session : ℕ}
     legal = t.legal;
     hears = t.hears;
     told = t.told;
+    observed = t.observed;
     live = t.live;
     others = λ other apart. subst (λ (o : Option Kept). SeatStands config other o now) (sym (changes.apart other apart)) (t.others other apart);
     fetched = λ other kept apart e. t.fetched other kept apart (sym (changes.apart other apart) ∙ e);
@@ -137,14 +145,19 @@ module _ {config : Config} {before : List Entry} {event : Event} {session : ℕ}
     begun = t.begun;
     heard = t.heard;
     did = t.did;
-    idle = record { nothing = t.idle.nothing; unbroken = t.idle.unbroken; unclosed = t.idle.unclosed };
+    idle = record {
+      nothing = t.idle.nothing;
+      unbroken = t.idle.unbroken;
+      unclosed = t.idle.unclosed;
+      unobserved = t.idle.unobserved;
+    };
   }
 
   -- It is over
 
   pub forgets : (sessions : BTreeMap ℕ Kept) (ahead : Ahead) (broken closing : Option ℕ) → is_over (record_of session now) ≡ true
       → next config (record_of session now) ≡ None → asking (record_of session now) ≡ None → Changes worker.sessions sessions session None
-      → actions_ahead (record worker { sessions = sessions; ahead = ahead; broken = broken; closing = closing }) ≡ outs
+      → done_ahead (record worker { sessions = sessions; ahead = ahead; broken = broken; closing = closing }) ≡ map Took outs
       → Advances config before event (record worker { sessions = sessions; ahead = ahead; broken = broken; closing = closing })
   forgets sessions ahead broken closing over rests unasking changes acts =
       let gone : is_live (record_of session now) ≡ false = t.live ∙ ap not over in
@@ -152,7 +165,7 @@ module _ {config : Config} {before : List Entry} {event : Event} {session : ℕ}
         now = now;
         stands = record {
           legal = t.legal;
-          rests = rest_at config session now t.hears rests unasking t.told;
+          rests = rest_at config session now t.hears rests unasking t.told t.observed;
           seats = λ n. ⊎_elim
               (λ (here : session ≡ n). subst (λ (m : ℕ). SeatStands config m (get nat_cmp sessions m) now) here
               (subst (λ (o : Option Kept). SeatStands config session o now) (sym changes.here) gone))
@@ -174,7 +187,7 @@ module _ {config : Config} {before : List Entry} {event : Event} {session : ℕ}
           begun = t.begun;
         };
         heard = t.heard;
-        did = t.did ∙ ap (λ (xs : List Action). interactions_of before ++ (given event ++ map Took xs)) (sym acts);
+        did = t.did ∙ ap (λ (xs : List Interaction). interactions_of before ++ (given event ++ xs)) (sym acts);
       }
 
 -- It goes on
@@ -183,13 +196,13 @@ module _ {config : Config} {before : List Entry} {event : Event} {session : ℕ}
     {outs : List Action} (t : InTurn config before event session worker true now outs) where
   pub keeps : (kept : Kept) (ahead : Ahead) → Stands config kept (record_of session now) → kept.number ≡ session
       → is_over (record_of session now) ≡ false → get nat_cmp worker.sessions session ≡ Some kept
-      → actions_ahead (record worker { ahead = ahead }) ≡ outs → (is_going session ahead ≡ false → kept.outs ≡ [])
+      → done_ahead (record worker { ahead = ahead }) ≡ map Took outs → (is_going session ahead ≡ false → kept.outs ≡ [])
       → Advances config before event (record worker { ahead = ahead })
   keeps kept ahead stands numbered unended has acts fetched_here = record {
     now = now;
     stands = record {
       legal = t.legal;
-      rests = rest_at config session now t.hears stands.rests stands.unasking t.told;
+      rests = rest_at config session now t.hears stands.rests stands.unasking t.told t.observed;
       seats = λ n. ⊎_elim
           (λ (here : session ≡ n). subst (λ (m : ℕ). SeatStands config m (get nat_cmp worker.sessions m) now) here
           (subst (λ (o : Option Kept). SeatStands config session o now) (sym has) (record {
@@ -218,7 +231,7 @@ module _ {config : Config} {before : List Entry} {event : Event} {session : ℕ}
       begun = t.begun;
     };
     heard = t.heard;
-    did = t.did ∙ ap (λ (xs : List Action). interactions_of before ++ (given event ++ map Took xs)) (sym acts);
+    did = t.did ∙ ap (λ (xs : List Interaction). interactions_of before ++ (given event ++ xs)) (sym acts);
   }
 
 -- Some steps

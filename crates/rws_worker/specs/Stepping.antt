@@ -8,7 +8,6 @@ use Rattle.rws_board.specs.declared.action.Action.{Action}
 use Rattle.rws_board.specs.declared.action.Action.TheVariants.{ToClient, Close, Drop}
 use Rattle.rws_board.specs.declared.interaction.Interaction.{Interaction}
 use Rattle.rws_board.specs.declared.interaction.Interaction.TheVariants.{Took, Told}
-use Rattle.rws_pool.specs.declared.events.PoolCall.{PoolCall}
 use Rattle.rws_pool.specs.declared.events.PoolCall.TheVariants.{Observe}
 use Rattle.rws_pool.specs.declared.words.Round.{Round}
 use Rattle.rws_session.specs.State.{numbered}

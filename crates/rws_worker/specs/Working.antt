@@ -1,5 +1,5 @@
 -- What a worker over a board answers, and what the board did by then.
-use Rattle.std.specs.Prelude.{◌≡◌, ℕ, Bool, true, false, ◌+◌, ◌^◌, ◌<◌, ◌≤◌, List, [], ◌∷◌, ◌++◌, length, None, Unit}
+use Rattle.std.specs.Prelude.{◌≡◌, ℕ, Bool, true, false, ◌+◌, ◌^◌, ◌<◌, ◌≤◌, List, [], ◌∷◌, ◌++◌, length, None}
 use Rattle.rws_board.specs.Boards.{Standing, events_given}
 use Rattle.rws_board.specs.Boards.Standing.{Going, Ended as AtEnd, NextFailed, ActFailed}
 use Rattle.rws_board.specs.declared.board_fault.BoardFault.{BoardFault}
@@ -29,7 +29,7 @@ events_told (Gave event ∷ interactions) = events_told interactions
 events_told (Took action ∷ interactions) = events_told interactions
 events_told (Told call ∷ interactions) = event_of call ∷ events_told interactions
 
--- a board did this, and the words took the steps that it was told of
+-- A board did this, and the words took the steps that it was told of; also the last one, where the board failed at that.
 abbrev pub WithWords : (did : List Interaction → Standing → Type 0) → (first now : PoolWords) → List Interaction → Standing → Type 0
 WithWords did first now interactions standing = did interactions standing × (now ≡ pool_from first (events_told interactions))
 

@@ -1,5 +1,5 @@
 //! A worker over a board.
-ghost use Rattle.std.specs.Prelude.{◌≡◌, ◌≤◌, ◌+◌, ◌∷◌, ◌++◌, ℕ, List, [], Some, IsErrOf, MatchOption, MatchResult, Unit};
+ghost use Rattle.std.specs.Prelude.{◌≡◌, ◌≤◌, ◌+◌, ◌∷◌, ◌++◌, ℕ, List, [], Some, IsErrOf, MatchOption, MatchResult};
 ghost use Rattle.rws_board.specs.Boards.Standing.{Going, ActFailed};
 ghost use Rattle.rws_board.specs.Faults.{Rises};
 ghost use Rattle.rws_board.specs.declared.interaction.Interaction.{Interaction};

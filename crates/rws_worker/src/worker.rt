@@ -2,7 +2,7 @@
 //!
 //! Between two events each session that isn't over rests and has nothing to be fetched; a session that is over is
 //! forgotten. An owner may be there for a link that its session has given up since: then the session hears nothing.
-ghost use Rattle.std.specs.Prelude.{◌≡◌, ◌∷◌, ◌≤◌, ◌<◌, ◌+◌, ◌-◌, ◌^◌, ◌==◌, List, [], MatchOption};
+ghost use Rattle.std.specs.Prelude.{◌≡◌, ◌∷◌, ◌≤◌, ◌<◌, ◌+◌, ◌-◌, ◌^◌, ◌==◌, List, [], MatchOption, None};
 ghost use Rattle.rws_board.specs.declared.action.Action.TheVariants as actions;
 ghost use Rattle.rws_config.specs.declared.config.Config.{Config};
 ghost use Rattle.rws_record.specs.Run.{Entry};
@@ -108,9 +108,20 @@ impl Worker {
             → WorkerStands config self.new run }
         ensures links { self.new.last_link ≡ self.old.last_link }
     {
-        if let Some(round) = self.next_round() {
-            return Step::Call(PoolCall::Observe { round });
+        match self.next_round() {
+            Some(round) => Step::Call(PoolCall::Observe { round }),
+            None => self.next_of_sessions(),
         }
+    }
+
+    /// The next thing that came of the last event, where no round is to be taken in.
+    fn next_of_sessions(&mut self) -> Step
+        requires unobserved { self.old.observed ≡ None }
+        ensures steps { Steps result self.old self.new }
+        ensures stands { (config : Config) (run : List Entry) → WorkerStands config self.old run
+            → WorkerStands config self.new run }
+        ensures links { self.new.last_link ≡ self.old.last_link }
+    {
         if let Some(action) = self.next_out() {
             self.release_dropped(&action);
             return Step::Act(action);

@@ -1,6 +1,6 @@
 //! What comes of a round of the monitor: it is taken into the words of the pool, unless it names a server that the settings
 //! lack.
-ghost use Rattle.std.specs.Prelude.{◌≡◌, ◌≤◌, List, None, if◌then◌else◌, Some};
+ghost use Rattle.std.specs.Prelude.{◌≡◌, List, None};
 ghost use Rattle.rws_board.specs.declared.event.Event.TheVariants as events;
 ghost use Rattle.rws_config.specs.declared.config.Config.{Config};
 ghost use Rattle.rws_record.specs.Run.{Entry, names_none, names_only};

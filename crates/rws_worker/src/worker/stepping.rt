@@ -46,6 +46,7 @@ impl Worker {
         ensures step { MatchOption result ((endings self.old ≡ []) × (self.new.broken ≡ None) × (self.new.closing ≡ None))
             (λ step. endings self.old ≡ step ∷ endings self.new) }
         ensures outs { outs_ahead self.new ≡ outs_ahead self.old }
+        ensures observed { self.new.observed ≡ self.old.observed }
         ensures stands { (config : Config) (run : List Entry) → WorkerStands config self.old run → WorkerStands config self.new run }
         ensures links { self.new.last_link ≡ self.old.last_link }
     {

@@ -1,9 +1,9 @@
 //! Which session an event is for, and what becomes of the session.
-ghost use Rattle.std.specs.Prelude.{◌≡◌, ◌<◌, ◌≤◌, ◌+◌, ◌-◌, ◌^◌, ℕ, true, List, Some};
+ghost use Rattle.std.specs.Prelude.{◌≡◌, ◌<◌, ◌≤◌, ◌+◌, ◌-◌, ◌^◌, ℕ, true, List, None, Some};
 ghost use Rattle.rws_board.specs.declared.event.Event.{Event};
 ghost use Rattle.rws_config.specs.declared.config.Config.{Config};
 ghost use Rattle.rws_record.specs.Item.{Item};
-ghost use Rattle.rws_record.specs.Run.{Entry, begun_by, owner, record_of, told_by};
+ghost use Rattle.rws_record.specs.Run.{Entry, begun_by, owner, record_of, round_of, told_by};
 ghost use Rattle.rws_session.specs.Kept.{Kept, Stands};
 ghost use Rattle.rws_session.specs.Turning.{heard};
 ghost use Rattle.rws_worker.specs.Standing.{Advances, IsOn, WorkerStands, holds, told_through, told_with};
@@ -35,6 +35,7 @@ impl Worker {
         requires idle { IsIdle self.old }
         requires unspent { self.old.last_link < 2 ^ 64 - 1 }
         ensures advances { (run : List Entry) → WorkerStands config.now self.old run → (event : Event) → begun_by event ≡ 0
+            → round_of config.now event ≡ None
             → told_by config.now event run ≡ told_with session input (record_of session run)
             → Advances config.now run event self.new }
         ensures links { self.new.last_link ≤ self.old.last_link + 1 }
@@ -52,6 +53,7 @@ impl Worker {
         requires unspent { self.old.last_link < 2 ^ 64 - 1 }
         requires on { IsOn link input }
         ensures advances { (run : List Entry) → WorkerStands config.now self.old run → (event : Event) → begun_by event ≡ 0
+            → round_of config.now event ≡ None
             → told_by config.now event run ≡ told_through (owner link run) input run
             → Advances config.now run event self.new }
         ensures links { self.new.last_link ≤ self.old.last_link + 1 }

@@ -1,22 +1,24 @@
-use Rattle.std.proofs.Common.{◌≡◌, ◌≤◌, List, ◌++◌, map, length}
+use Rattle.std.proofs.Common.{◌≡◌, ◌≤◌, List, ◌++◌, length}
 use Rattle.rws_board.specs.Boards.Standing.{Going}
 use Rattle.rws_board.specs.declared.interaction.Interaction.{Interaction}
-use Rattle.rws_board.specs.declared.interaction.Interaction.TheVariants.{Took}
+use Rattle.rws_pool.specs.declared.words.PoolWords.{PoolWords}
 use Rattle.rws_config.specs.declared.config.Config.{Config}
 use Rattle.rws_record.specs.Run.{Entry}
 use Rattle.rws_worker.specs.Standing.{WorkerStands}
-use Rattle.rws_worker.specs.Stepping.{actions_ahead}
-use Rattle.rws_worker.specs.contracts.work.act_all.{B-type}
-use Rattle.rws_worker.proofs.work.act_all.Given as goal
+use Rattle.rws_worker.specs.Stepping.{done_ahead}
+use Rattle.rws_worker.specs.Working.{WithWords}
+use Rattle.rws_worker.specs.contracts.work.do_all.{B-type}
+use Rattle.rws_worker.proofs.work.do_all.Given as goal
 
-abbrev pub invariant-loop-action : goal.invariant-loop-action
-invariant-loop-action g l =
-    ((done : List Interaction) × (map Took (actions_ahead l.initial.worker) ≡ done ++ map Took (actions_ahead l.worker))
-    × ((start : B-type g.row.B) (before : List Interaction) → g.B.Board.did start l.initial.board before Going
-    → g.B.Board.did start l.board (before ++ done) Going))
+abbrev pub invariant-loop-doing : goal.invariant-loop-doing
+invariant-loop-doing g l =
+    ((done : List Interaction) × (done_ahead l.initial.worker ≡ done ++ done_ahead l.worker)
+    × ((start : B-type g.row.B) (first : PoolWords) (before : List Interaction)
+    → WithWords (g.B.Board.did start l.initial.board) first l.initial.words before Going
+    → WithWords (g.B.Board.did start l.board) first l.words (before ++ done) Going))
     × (g.B.Board.faults l.initial.board ≤ g.B.Board.faults l.board)
     × ((config : Config) (run : List Entry) → WorkerStands config l.initial.worker run → WorkerStands config l.worker run)
     × (l.worker.last_link ≡ l.initial.worker.last_link)
 
-abbrev pub decreases-loop-action : goal.decreases-loop-action
-decreases-loop-action g l = length (actions_ahead l.worker)
+abbrev pub decreases-loop-doing : goal.decreases-loop-doing
+decreases-loop-doing g l = length (done_ahead l.worker)

@@ -1,10 +1,10 @@
 use Rattle.std.proofs.Common.{◌≡◌, ◌≤◌, ◌-◌, ◌^◌}
-use Rattle.rws_worker.specs.Working.{IsUnderway}
+use Rattle.rws_worker.specs.Working.{IsUnderway, WithWords}
 use Rattle.rws_worker.proofs.work.work_here.Given as goal
 
 abbrev pub invariant-events : goal.invariant-events
 invariant-events g l =
-    IsUnderway l.config (g.B.Board.did l.initial.board l.board) l.worker l.events
+    IsUnderway l.config (WithWords (g.B.Board.did l.initial.board l.board) l.initial.words l.words) l.worker l.events
     × (g.B.Board.faults l.initial.board ≤ g.B.Board.faults l.board) × (l.config ≡ l.initial.config)
 
 abbrev pub decreases-events : goal.decreases-events

@@ -1,4 +1,4 @@
-use Rattle.std.proofs.Common.{◌≡◌, ℕ, ◌<◌, ◌≤◌, Bool, true, false, List, [], ◌∷◌, ap, ◌∙◌, sym, refl, arith}
+use Rattle.std.proofs.Common.{◌≡◌, ℕ, ◌<◌, ◌≤◌, Bool, true, [], ◌∷◌, ap, ◌∙◌, sym, refl, arith}
 use Rattle.std.proofs.lemmas.Bool.{le-ltb, lt-ltb}
 use Rattle.rws_board.specs.declared.event.Event.TheVariants as events
 use Rattle.rws_record.specs.Item.{Item}
@@ -16,7 +16,7 @@ returns-then-session-self-clause-advances c = λ run w.
     let low : session ≤ greatest run = let g = w.begun in let h = c.if-session-self.true in omega arith in
     let none : told_by config (events.Accept session c.args.scramble) run ≡ [] =
     ap (λ (b : Bool). if_so {A = ℕ × Item} b (session, beginning (has_room config run) (Accepted session c.args.scramble) true)) (le-ltb (greatest run) session low) in
-    passes config c.args.self.now c.args.self.now run _ w none c.requires.idle (idle_has_none c.args.self.now c.requires.idle) (λ _. refl) (λ _. refl) refl
+    passes config c.args.self.now c.args.self.now run _ w none refl c.requires.idle (idle_has_none c.args.self.now c.requires.idle) (λ _. refl) (λ _. refl) refl
     (let h = c.if-session-self.true in omega arith)
 
 pub returns-then-has_room-clause-advances : goal.returns-then-has_room-clause-advances

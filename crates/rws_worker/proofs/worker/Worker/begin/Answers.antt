@@ -1,4 +1,4 @@
-use Rattle.std.proofs.Common.{◌≡◌, ℕ, ◌+◌, ◌≤◌, Bool, true, false, [], refl, ap, ◌∙◌, arith, nat_lt, ◌&&◌, length}
+use Rattle.std.proofs.Common.{◌≡◌, ℕ, ◌+◌, ◌≤◌, Bool, false, [], refl, ap, arith, nat_lt, ◌&&◌, length}
 use Rattle.std.proofs.lemmas.Bool.{le-ltb, and_right}
 use Rattle.rws_board.specs.declared.event.Event.TheVariants as events
 use Rattle.rws_record.specs.Item.{Item}
@@ -16,7 +16,7 @@ returns-then-session-self-clause-advances c = λ run w.
     let none : told_by config (events.Begin c.args.session c.args.server) run ≡ [] =
     ap (λ (b : Bool). if_so {A = ℕ × Item} (b && nat_lt c.args.server (length config.servers))
     (c.args.session, beginning (has_room config run) (Began (last_link run + 1) c.args.server) false)) (le-ltb (greatest run) c.args.session low) in
-    passes config c.args.self.now c.args.self.now run _ w none c.requires.idle (idle_has_none c.args.self.now c.requires.idle) (λ _. refl) (λ _. refl) refl
+    passes config c.args.self.now c.args.self.now run _ w none refl c.requires.idle (idle_has_none c.args.self.now c.requires.idle) (λ _. refl) (λ _. refl) refl
     (let h = c.if-session-self.true in omega arith)
 
 pub returns-then-from-len-clause-advances : goal.returns-then-from-len-clause-advances
@@ -27,5 +27,5 @@ returns-then-from-len-clause-advances c = λ run w.
     (and_right (nat_lt (greatest run) c.args.session) _ (le-ltb c.args.server (length config.servers)
     (let h = c.if-from-len.true in let f = c.from.ensures in let l = c.len.ensures in omega arith))) in
     let now : Worker = record c.args.self.now { greatest = c.args.session } in
-    passes config c.args.self.now now run _ w none c.requires.idle (idle_has_none now (idle_on c.args.self.now now refl refl refl c.requires.idle))
+    passes config c.args.self.now now run _ w none refl c.requires.idle (idle_has_none now (idle_on c.args.self.now now refl refl refl refl c.requires.idle))
     (λ _. refl) (λ _. refl) refl (let h = c.if-session-self.false in omega arith)

@@ -1,4 +1,4 @@
-use Rattle.std.proofs.Common.{◌≡◌, ℕ, sym, ap, ◌∙◌, Option, Some, None, ◌&&◌, refl, arith, []}
+use Rattle.std.proofs.Common.{◌≡◌, ℕ, sym, ap, ◌∙◌, Option, Some, None, refl, arith, []}
 use Rattle.std.specs.BTreeMap.{get}
 use Rattle.std.specs.Ordering.{nat_cmp}
 use Rattle.rws_record.specs.Run.{owner, told_by, record_of}
@@ -10,17 +10,17 @@ use Rattle.rws_worker.proofs.TellLemmas.{unheard, not_true}
 use Rattle.rws_worker.proofs.worker.Worker.tell_on.Goals as goal
 
 pub returns-in-Some-clause-advances : goal.returns-in-Some-clause-advances
-returns-in-Some-clause-advances c = λ run w event none_begun told_so.
+returns-in-Some-clause-advances c = λ run w event none_begun no_round told_so.
     let its : owner c.args.link run ≡ Some c.in-Some.session =
     w.owned c.args.link c.in-Some.session (sym c.get.ensures.value ∙ sym c.copied.ensures ∙ c.in-Some.is) in
-    c.tell.ensures.advances run w event none_begun (told_so ∙ ap (λ (o : Option ℕ). told_through o c.args.input run) its)
+    c.tell.ensures.advances run w event none_begun no_round (told_so ∙ ap (λ (o : Option ℕ). told_through o c.args.input run) its)
 
 pub returns-in-None-clause-advances : goal.returns-in-None-clause-advances
-returns-in-None-clause-advances c = λ run w event none_begun told_so.
+returns-in-None-clause-advances c = λ run w event none_begun no_round told_so.
     let none : get nat_cmp c.args.self.now.owners c.args.link ≡ None = sym c.get.ensures.value ∙ sym c.copied.ensures ∙ c.in-None.is in
     let nothing : told_by c.args.config.now event run ≡ [] =
     told_so ∙ unheard c.args.link c.args.input run c.requires.on (owner c.args.link run)
     (λ session its. not_true (holds c.args.link (record_of session run)) (λ has. none_some session (sym none ∙ w.owns c.args.link session its has))) in
-    passes c.args.config.now c.args.self.now c.args.self.now run event w nothing c.requires.idle (idle_has_none c.args.self.now c.requires.idle)
+    passes c.args.config.now c.args.self.now c.args.self.now run event w nothing no_round c.requires.idle (idle_has_none c.args.self.now c.requires.idle)
     (λ _. refl) (λ _. refl) refl
     (let z = none_begun in omega arith)

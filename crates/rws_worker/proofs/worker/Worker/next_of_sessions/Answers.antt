@@ -1,10 +1,14 @@
-use Rattle.std.proofs.Common.{◌∙◌, sym}
+use Rattle.std.proofs.Common.{ap, ◌∙◌, sym}
+use Rattle.rws_worker.specs.declared.worker.Worker.{Worker}
 use Rattle.rws_worker.proofs.StepsLemmas.{ends_on, none_ahead}
-use Rattle.rws_worker.proofs.worker.Worker.step.Goals as goal
+use Rattle.rws_worker.proofs.worker.Worker.next_of_sessions.Goals as goal
 
 pub returns-in-Some-next_ending-clause-steps : goal.returns-in-Some-next_ending-clause-steps
 returns-in-Some-next_ending-clause-steps c =
-    ends_on c.args.self.now c.next_ending.new.self c.in-Some-next_ending.step c.in_default.ensures.out.0
+    ends_on c.args.self.now c.next_ending.new.self c.in-Some-next_ending.step
+    c.requires.unobserved
+    (c.next_ending.ensures.observed ∙ ap (λ (v : Worker). v.observed) c.next_out.ensures.rest ∙ c.requires.unobserved)
+    c.in_default.ensures.out.0
     (c.next_ending.ensures.outs ∙ c.in_default.ensures.out.1)
     (sym c.next_out.ensures.endings ∙ c.in-Some-next_ending.ensures.step)
 
