@@ -4,6 +4,8 @@ pub mod WithoutLemmas
 pub mod StepLemmas
 pub mod RestLemmas
 pub mod OpeningLemmas
+-- how far a link has played the history, and how long that may be
+pub mod HistoryLemmas
 pub mod EntryLemmas
 -- the law that events determine the run
 pub mod OneRunLemmas
@@ -12,6 +14,11 @@ pub mod WantLemmas
 -- runs over given events, computed
 pub mod WorkedRuns
 pub mod LoginRuns
+pub mod RouteRuns
+pub mod HistoryRuns
 -- the laws on the records in a run
+pub mod OrderLemmas
 pub mod RecordLemmas
 pub mod LinkLemmas
+-- what the worker's loads count
+pub mod LoadLemmas

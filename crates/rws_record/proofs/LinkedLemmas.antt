@@ -22,7 +22,7 @@ use Rattle.rws_link.specs.declared.handshake.Reaction.TheVariants.{Answers, Acce
 use Rattle.rws_link.specs.Handshake.{due, reaction}
 use Rattle.rws_link.specs.Stepping.{LinkState, LogsIn, Rests, Awaits, IsLost, Exchange, Step, fed, is_new, logged_in, opened as opening, reacted, sent, step, settled, behind_part, with_part, replied, replied_by, read_by, is_some_byte}
 use Rattle.rws_record.specs.Item.{Item, Purpose}
-use Rattle.rws_record.specs.Item.Item.{Accepted, TurnsAway, Began, ClientBytes, LinkReady, LinkBytes, ClientGone, LinkLost, Routed, Comes, Connects, Takes, Floods, Puts, Starves}
+use Rattle.rws_record.specs.Item.Item.{Accepted, TurnsAway, Began, ClientBytes, LinkReady, LinkBytes, ClientGone, LinkLost, Ticks, Routed, Comes, Connects, Takes, Floods, Puts, Starves}
 use Rattle.rws_record.specs.Item.Put.{Hands, Tells, Routes, Opens, LogsInto, Sends, Drops, Closes}
 use Rattle.rws_record.specs.Values.{asked_on, linked, sent_for, kind_of}
 
@@ -268,7 +268,7 @@ opened_asked false login link asked l = l
 
 was_asked : (link : ℕ) (past : List Item) → IsAsked (linked link past) (asked_on link past)
 was_asked link [] = λ kind e. absurd cc
-was_asked link (Began opened server ∷ past) =
+was_asked link (Began opened server reading ∷ past) =
     changed_asked (opened == link) Rests _ (asked_on link past) (λ kind e. absurd cc) (was_asked link past)
 was_asked link (LinkBytes from bytes ∷ past) =
     let below = was_asked link past in
@@ -283,18 +283,19 @@ was_asked link (LinkReady ready ∷ past) =
     (readied_asked (linked link past) (is_new (linked link past)) (asked_on link past) below) below
 was_asked link (Puts (Opens opened server login) ∷ past) = opened_asked (opened == link) login _ (asked_on link past) (was_asked link past)
 was_asked link (Puts (Sends to purpose) ∷ past) = sent_asked (to == link) purpose _ (asked_on link past) (was_asked link past)
-was_asked link (Accepted session scramble ∷ past) = was_asked link past
+was_asked link (Accepted session scramble reading ∷ past) = was_asked link past
 was_asked link (TurnsAway told ∷ past) = was_asked link past
 was_asked link (ClientBytes bytes ∷ past) = was_asked link past
 was_asked link (ClientGone ∷ past) = was_asked link past
 was_asked link (LinkLost lost ∷ past) = was_asked link past
 was_asked link (Takes judged number ∷ past) = was_asked link past
-was_asked link (Routed its server ∷ past) = was_asked link past
+was_asked link (Ticks reading ∷ past) = was_asked link past
+was_asked link (Routed words loads next found ∷ past) = was_asked link past
 was_asked link (Connects said ∷ past) = was_asked link past
 was_asked link (Floods bytes ∷ past) = was_asked link past
 was_asked link (Starves made number ∷ past) = was_asked link past
 was_asked link (Puts (Hands packets) ∷ past) = was_asked link past
-was_asked link (Puts (Routes login) ∷ past) = was_asked link past
+was_asked link (Puts Routes ∷ past) = was_asked link past
 was_asked link (Puts (LogsInto to packets) ∷ past) = was_asked link past
 was_asked link (Puts (Tells number tell) ∷ past) = was_asked link past
 was_asked link (Puts (Drops given cause) ∷ past) = was_asked link past

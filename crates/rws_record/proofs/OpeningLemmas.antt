@@ -1,9 +1,10 @@
 -- When the worker is asked, and when a link is opened: nothing that is owed asks, and a link is opened only as the direct answer
--- to the worker's.
+-- to the worker's. A session may ask several times between two events.
 use Rattle.std.proofs.Common.{◌≡◌, ℕ, Bool, true, false, List, [], ◌∷◌, ◌++◌, drop, map, refl, sym, ◌∙◌, Option, Some, None}
 use Rattle.std.specs.Prelude.{if◌then◌else◌}
-use Rattle.rws_wire.specs.declared.drop_cause.DropCause.TheVariants.{End}
+use Rattle.rws_wire.specs.declared.drop_cause.DropCause.TheVariants.{End, Kept}
 use Rattle.rws_native.specs.declared.login.Login.{Login}
+use Rattle.rws_reply.specs.declared.kind.Outcome.{Outcome}
 use Rattle.rws_reply.specs.declared.kind.Outcome.TheVariants.{Done, Failed}
 use Rattle.rws_reply.specs.declared.kind.Progress.{Progress}
 use Rattle.rws_reply.specs.declared.kind.Progress.TheVariants.{More, Whole as Ends}
@@ -12,25 +13,29 @@ use Rattle.rws_front.specs.declared.step.FrontStep.TheVariants as fronts
 use Rattle.rws_link.specs.declared.step.LinkStep.{LinkStep}
 use Rattle.rws_link.specs.declared.step.LinkStep.TheVariants as steps
 use Rattle.rws_config.specs.declared.config.Config.{Config}
+use Rattle.rws_route.specs.declared.destination.Target.{Target}
+use Rattle.rws_route.specs.declared.destination.Target.TheVariants.{Primary, Replica, NoPrimary as Nowhere}
 use Rattle.rws_record.specs.declared.command.Command.{Command}
-use Rattle.rws_record.specs.Item.{Item, Purpose, Judged, Put}
-use Rattle.rws_record.specs.Item.Item.{Accepted, TurnsAway, Began, ClientBytes, LinkReady, LinkBytes, ClientGone, LinkLost, Routed, Comes, Connects, Takes, Floods, Puts, Starves}
+use Rattle.rws_record.specs.Item.{Item, Purpose, Judged, Put, Recording, Tell}
+use Rattle.rws_record.specs.Item.Item.{Accepted, TurnsAway, Began, ClientBytes, LinkReady, LinkBytes, ClientGone, LinkLost, Ticks, Routed, Comes, Connects, Takes, Floods, Puts, Starves}
 use Rattle.rws_record.specs.Item.Judged.{Leaves, Pings, IsRefused, Serves}
-use Rattle.rws_record.specs.Item.Purpose.{Prepares, Asks}
+use Rattle.rws_record.specs.Item.Purpose.{Prepares, Asks, Plays}
+use Rattle.rws_record.specs.Item.Recording.{Nothing, Accepts, Keeps}
+use Rattle.rws_record.specs.Item.Tell.{Passes, Owns, Refuses}
 use Rattle.rws_record.specs.Item.Put.{Hands, Tells, Routes, Opens, LogsInto, Sends, Drops, Closes}
-use Rattle.rws_record.specs.Values.{asking, asked_on, kept_on, links, opens, is_over, reply_number}
-use Rattle.rws_record.specs.Rules.{Loss, CutsReply, HidesOutcome, TakesState, EndsTransaction, StartsReplay, SendsElsewhere, IsForgotten, after_answer, after_command, after_coming, after_connecting, after_loss, after_loss_by, after_part, after_preparing, after_route, after_turning_away, after_want, farewells, follow, form_of, is_loss, loss_of, next, owed, unasked}
+use Rattle.rws_record.specs.Values.{asking, asked_on, autocommit, class_of_command, keeps, kept_on, links, now, opens, is_over, reply_number, without}
+use Rattle.rws_record.specs.Rules.{Loss, CutsReply, HidesOutcome, TakesState, EndsTransaction, StartsReplay, SendsElsewhere, IsForgotten, after_answer, after_command, after_coming, after_connecting, after_keeping, after_loss, after_loss_by, after_part, after_played, after_preparing, after_route, after_turning_away, after_want, farewells, follow, form_of, is_loss, loss_of, next, opening, owed, own_status, recording_of, refusing, unasked}
 use Rattle.rws_record.specs.Record.{IsBeginning, IsInput, IsRecord, GoesOn}
 use Rattle.rws_record.specs.Record.IsRecord.{begins, steps as record_steps, answers, hears, starves}
 use Rattle.rws_record.specs.Record.GoesOn.{stays, then as goes_then}
 use Rattle.rws_record.proofs.StepLemmas.{Due, Step, goes_unasking, of_next}
 use Rattle.rws_record.proofs.StepLemmas.Due.{comes, connects, takes}
-use Rattle.rws_record.proofs.StepLemmas.Step.{pays, asks, prepares, sends, floods, reads}
+use Rattle.rws_record.proofs.StepLemmas.Step.{pays, asks, prepares, plays, sends, floods, reads}
 
 -- neither the worker is asked nor a link opened
 abbrev pub is_plain : List Put → Bool
 is_plain [] = true
-is_plain (Routes login ∷ others) = false
+is_plain (Routes ∷ others) = false
 is_plain (Opens link server login ∷ others) = false
 is_plain (_ ∷ others) = is_plain others
 
@@ -38,7 +43,7 @@ plain_append : (first others : List Put) → is_plain first ≡ true → is_plai
 plain_append [] others f o = o
 plain_append (Hands packets ∷ rest) others f o = plain_append rest others f o
 plain_append (Tells number tell ∷ rest) others f o = plain_append rest others f o
-plain_append (Routes login ∷ rest) others f o = absurd cc
+plain_append (Routes ∷ rest) others f o = absurd cc
 plain_append (Opens link server login ∷ rest) others f o = absurd cc
 plain_append (LogsInto link packets ∷ rest) others f o = plain_append rest others f o
 plain_append (Sends link purpose ∷ rest) others f o = plain_append rest others f o
@@ -49,7 +54,7 @@ plain_behind : (list : List Put) → is_plain list ≡ true → is_plain (drop 1
 plain_behind [] p = refl
 plain_behind (Hands packets ∷ rest) p = p
 plain_behind (Tells number tell ∷ rest) p = p
-plain_behind (Routes login ∷ rest) p = absurd cc
+plain_behind (Routes ∷ rest) p = absurd cc
 plain_behind (Opens link server login ∷ rest) p = absurd cc
 plain_behind (LogsInto link packets ∷ rest) p = p
 plain_behind (Sends link purpose ∷ rest) p = p
@@ -73,44 +78,72 @@ plain_if : (test : Bool) (list : List Put) → is_plain list ≡ true → is_pla
 plain_if true list p = p
 plain_if false list p = refl
 
-plain_follow : (put : Put) (past : List Item) → is_plain (follow put past) ≡ true
-plain_follow (Hands packets) past = refl
-plain_follow (Tells number tell) past = refl
-plain_follow (Routes login) past = refl
-plain_follow (Opens link server login) past = refl
-plain_follow (LogsInto link packets) past = refl
-plain_follow (Sends link purpose) past = refl
-plain_follow (Drops link cause) past = plain_if (is_loss cause) (after_loss link past) (plain_loss_by (loss_of link past))
-plain_follow (Closes reason) past = refl
+plain_kept : (list : List ℕ) → is_plain (map (λ link. Drops link Kept) list) ≡ true
+plain_kept [] = refl
+plain_kept (link ∷ others) = plain_kept others
+
+plain_keeping : (keeping : Bool) (link : ℕ) (kept : Option ℕ) (list : List ℕ) → is_plain (after_keeping keeping link kept list) ≡ true
+plain_keeping true link None list = plain_kept (without link list)
+plain_keeping true link (Some kept) list = refl
+plain_keeping false link kept list = refl
+
+plain_telling : (config : Config) (number : ℕ) (tell : Tell) (past : List Item) → is_plain (follow config (Tells number tell) past) ≡ true
+plain_telling config number (Passes link command payload (Some outcome) Keeps) past = plain_keeping true link (kept_on past) (links past)
+plain_telling config number (Passes link command payload (Some outcome) Accepts) past = refl
+plain_telling config number (Passes link command payload (Some outcome) Nothing) past = refl
+plain_telling config number (Passes link command payload None recording) past = refl
+plain_telling config number (Owns status) past = refl
+plain_telling config number (Refuses error) past = refl
+
+plain_follow : (config : Config) (put : Put) (past : List Item) → is_plain (follow config put past) ≡ true
+plain_follow config (Hands packets) past = refl
+plain_follow config (Tells number tell) past = plain_telling config number tell past
+plain_follow config Routes past = refl
+plain_follow config (Opens link server login) past = refl
+plain_follow config (LogsInto link packets) past = refl
+plain_follow config (Sends link Prepares) past = refl
+plain_follow config (Sends link (Plays command)) past = refl
+plain_follow config (Sends link (Asks command)) past =
+    plain_keeping (keeps (class_of_command command)) link (kept_on past) (links past)
+plain_follow config (Drops link cause) past =
+    plain_if (is_loss cause) (after_loss config link past) (plain_loss_by (loss_of config link past))
+plain_follow config (Closes reason) past = refl
 
 plain_unasked : (link : ℕ) (behind : Bool) → is_plain (unasked link behind) ≡ true
 plain_unasked link true = refl
 plain_unasked link false = refl
 
-plain_answer : (link : ℕ) (command : Command) (form : List ℕ) (far : Progress) (behind : Bool) (number : ℕ)
-    → is_plain (after_answer link command form far behind number) ≡ true
-plain_answer link command form More behind number = refl
-plain_answer link command form (Ends outcome) behind number = plain_unasked link behind
+plain_answer : (link : ℕ) (command : Command) (form : List ℕ) (far : Progress) (behind : Bool) (number : ℕ) (recording : Outcome → Recording)
+    → is_plain (after_answer link command form far behind number recording) ≡ true
+plain_answer link command form More behind number recording = refl
+plain_answer link command form (Ends outcome) behind number recording = plain_unasked link behind
+
+plain_played : (link : ℕ) (far : Progress) (behind : Bool) → is_plain (after_played link far behind) ≡ true
+plain_played link More behind = refl
+plain_played link (Ends (Done status)) behind = plain_unasked link behind
+plain_played link (Ends (Failed code)) behind = refl
 
 plain_preparing : (link : ℕ) (far : Progress) (behind : Bool) → is_plain (after_preparing link far behind) ≡ true
 plain_preparing link More behind = refl
 plain_preparing link (Ends (Done status)) behind = plain_unasked link behind
 plain_preparing link (Ends (Failed code)) behind = refl
 
-plain_part : (link : ℕ) (purpose : Option Purpose) (form : List ℕ) (far : Progress) (behind : Bool) (number : ℕ)
-    → is_plain (after_part link purpose form far behind number) ≡ true
-plain_part link (Some (Asks command)) form far behind number = plain_answer link command form far behind number
-plain_part link (Some Prepares) form far behind number = plain_preparing link far behind
-plain_part link None form far behind number = refl
+plain_part : (config : Config) (link : ℕ) (purpose : Option Purpose) (form : List ℕ) (far : Progress) (behind : Bool) (number : ℕ) (past : List Item)
+    → is_plain (after_part config link purpose form far behind number past) ≡ true
+plain_part config link (Some (Asks command)) form far behind number past =
+    plain_answer link command form far behind number (λ outcome. recording_of config past outcome)
+plain_part config link (Some (Plays command)) form far behind number past = plain_played link far behind
+plain_part config link (Some Prepares) form far behind number past = plain_preparing link far behind
+plain_part config link None form far behind number past = refl
 
-plain_coming : (link : ℕ) (said : LinkStep) (purpose : Option Purpose) (number : ℕ)
-    → is_plain (after_coming link said purpose number) ≡ true
-plain_coming link (steps.Part payload role progress next behind) purpose number =
-    plain_part link purpose (form_of role payload) progress behind number
-plain_coming link (steps.Lost cause) purpose number = refl
-plain_coming link (steps.Send packets) purpose number = refl
-plain_coming link steps.LoggedIn purpose number = refl
-plain_coming link steps.Idle purpose number = refl
+plain_coming : (config : Config) (link : ℕ) (said : LinkStep) (purpose : Option Purpose) (number : ℕ) (past : List Item)
+    → is_plain (after_coming config link said purpose number past) ≡ true
+plain_coming config link (steps.Part payload role progress next behind) purpose number past =
+    plain_part config link purpose (form_of role payload) progress behind number past
+plain_coming config link (steps.Lost cause) purpose number past = refl
+plain_coming config link (steps.Send packets) purpose number past = refl
+plain_coming config link steps.LoggedIn purpose number past = refl
+plain_coming config link steps.Idle purpose number past = refl
 
 plain_connecting : (said : FrontStep) → is_plain (after_connecting said) ≡ true
 plain_connecting (fronts.Send packets) = refl
@@ -119,11 +152,11 @@ plain_connecting (fronts.End packets reason) = refl
 plain_connecting (fronts.Command payload) = refl
 plain_connecting fronts.Idle = refl
 
-plain_command : (judged : Judged) (number : ℕ) → is_plain (after_command judged number) ≡ true
-plain_command Leaves number = refl
-plain_command Pings number = refl
-plain_command (IsRefused error) number = refl
-plain_command (Serves command) number = refl
+plain_command : (judged : Judged) (number status : ℕ) → is_plain (after_command judged number status) ≡ true
+plain_command Leaves number status = refl
+plain_command Pings number status = refl
+plain_command (IsRefused error) number status = refl
+plain_command (Serves command) number status = refl
 
 plain_want : (over made : Bool) (number : ℕ) (list : List Put) → is_plain list ≡ true → is_plain (after_want over made number list) ≡ true
 plain_want true made number list p = p
@@ -136,62 +169,77 @@ plain_turning false = refl
 
 -- the worker's answer is the newest item
 abbrev pub is_answered : List Item → Bool
-is_answered (Routed link server ∷ past) = true
+is_answered (Routed words loads next found ∷ past) = true
 is_answered _ = false
 
-behind_route : (link server : ℕ) (login : Option Login) → is_plain (drop 1 (after_route link server login)) ≡ true
-behind_route link server (Some login) = refl
-behind_route link server None = refl
+behind_opening : (link : Option ℕ) (next server : ℕ) (login : Option Login) → is_plain (drop 1 (opening link next server login)) ≡ true
+behind_opening None next server (Some login) = refl
+behind_opening None next server None = refl
+behind_opening (Some link) next server login = refl
+
+behind_refusing : (late : Bool) (number : ℕ) → is_plain (drop 1 (refusing late number)) ≡ true
+behind_refusing true number = refl
+behind_refusing false number = refl
+
+behind_route : (found : Target) (link : Option ℕ) (next : ℕ) (login : Option Login) (late : Bool) (number : ℕ)
+    → is_plain (drop 1 (after_route found link next login late number)) ≡ true
+behind_route Nowhere link next login late number = behind_refusing late number
+behind_route (Primary server) link next login late number = behind_opening link next server login
+behind_route (Replica server) link next login late number = behind_opening link next server login
 
 -- what is owed once something was given out
-given : (put : Put) (past : List Item) → is_plain (drop 1 (owed past)) ≡ true
-    → (false ≡ false → is_plain (follow put past ++ drop 1 (owed past)) ≡ true) × (is_plain (drop 1 (follow put past ++ drop 1 (owed past))) ≡ true)
-given put past later =
-    let plain = plain_append (follow put past) (drop 1 (owed past)) (plain_follow put past) later in
-    (λ _. plain, plain_behind (follow put past ++ drop 1 (owed past)) plain)
+given : (config : Config) (put : Put) (past : List Item) → is_plain (drop 1 (owed config past)) ≡ true
+    → (false ≡ false → is_plain (follow config put past ++ drop 1 (owed config past)) ≡ true)
+    × (is_plain (drop 1 (follow config put past ++ drop 1 (owed config past))) ≡ true)
+given config put past later =
+    let plain = plain_append (follow config put past) (drop 1 (owed config past)) (plain_follow config put past) later in
+    (λ _. plain, plain_behind (follow config put past ++ drop 1 (owed config past)) plain)
 
-plainness : (past : List Item) → (is_answered past ≡ false → is_plain (owed past) ≡ true) × (is_plain (drop 1 (owed past)) ≡ true)
-plainness [] = (λ _. refl, refl)
-plainness (Accepted session scramble ∷ past) = (λ _. refl, refl)
-plainness (TurnsAway told ∷ past) =
+plainness : (config : Config) (past : List Item) → (is_answered past ≡ false → is_plain (owed config past) ≡ true) × (is_plain (drop 1 (owed config past)) ≡ true)
+plainness config [] = (λ _. refl, refl)
+plainness config (Accepted session scramble reading ∷ past) = (λ _. refl, refl)
+plainness config (TurnsAway told ∷ past) =
     (λ _. plain_turning told, plain_behind (after_turning_away told) (plain_turning told))
-plainness (Began link server ∷ past) = (λ _. refl, refl)
-plainness (ClientBytes bytes ∷ past) = (λ _. refl, refl)
-plainness (LinkReady link ∷ past) = (λ _. refl, refl)
-plainness (LinkBytes link bytes ∷ past) = (λ _. refl, refl)
-plainness (ClientGone ∷ past) = (λ _. plain_farewells (links past), plain_behind (farewells past) (plain_farewells (links past)))
-plainness (LinkLost link ∷ past) =
-    (λ _. plain_loss_by (loss_of link past), plain_behind (after_loss link past) (plain_loss_by (loss_of link past)))
-plainness (Routed link server ∷ past) = (λ not. absurd cc, behind_route link server (asking past))
-plainness (Comes link said ∷ past) =
-    let plain = plain_coming link said (asked_on link past) (reply_number past) in
-    (λ _. plain, plain_behind (after_coming link said (asked_on link past) (reply_number past)) plain)
-plainness (Connects said ∷ past) = (λ _. plain_connecting said, plain_behind (after_connecting said) (plain_connecting said))
-plainness (Takes judged number ∷ past) =
-    (λ _. plain_command judged number, plain_behind (after_command judged number) (plain_command judged number))
-plainness (Floods bytes ∷ past) = (λ _. refl, refl)
-plainness (Starves made number ∷ past) =
+plainness config (Began link server reading ∷ past) = (λ _. refl, refl)
+plainness config (ClientBytes bytes ∷ past) = (λ _. refl, refl)
+plainness config (LinkReady link ∷ past) = (λ _. refl, refl)
+plainness config (LinkBytes link bytes ∷ past) = (λ _. refl, refl)
+plainness config (ClientGone ∷ past) = (λ _. plain_farewells (links past), plain_behind (farewells past) (plain_farewells (links past)))
+plainness config (LinkLost link ∷ past) =
+    (λ _. plain_loss_by (loss_of config link past), plain_behind (after_loss config link past) (plain_loss_by (loss_of config link past)))
+plainness config (Ticks reading ∷ past) = (λ _. refl, refl)
+plainness config (Routed words loads next found ∷ past) =
+    (λ not. absurd cc, behind_route found _ next _ _ _)
+plainness config (Comes link said ∷ past) =
+    let plain = plain_coming config link said (asked_on link past) (reply_number past) past in
+    (λ _. plain, plain_behind (after_coming config link said (asked_on link past) (reply_number past) past) plain)
+plainness config (Connects said ∷ past) = (λ _. plain_connecting said, plain_behind (after_connecting said) (plain_connecting said))
+plainness config (Takes judged number ∷ past) =
+    let plain = plain_command judged number (own_status (autocommit config past)) in
+    (λ _. plain, plain_behind (after_command judged number (own_status (autocommit config past))) plain)
+plainness config (Floods bytes ∷ past) = (λ _. refl, refl)
+plainness config (Starves made number ∷ past) =
     let plain = plain_want (is_over past) made number (farewells past) (plain_farewells (links past)) in
     (λ _. plain, plain_behind (after_want (is_over past) made number (farewells past)) plain)
-plainness (Puts (Closes reason) ∷ past) =
+plainness config (Puts (Closes reason) ∷ past) =
     (λ _. plain_farewells (links past), plain_behind (farewells past) (plain_farewells (links past)))
-plainness (Puts (Hands packets) ∷ past) = given (Hands packets) past (plainness past).1
-plainness (Puts (Tells number tell) ∷ past) = given (Tells number tell) past (plainness past).1
-plainness (Puts (Routes login) ∷ past) = given (Routes login) past (plainness past).1
-plainness (Puts (Opens link server login) ∷ past) = given (Opens link server login) past (plainness past).1
-plainness (Puts (LogsInto link packets) ∷ past) = given (LogsInto link packets) past (plainness past).1
-plainness (Puts (Sends link purpose) ∷ past) = given (Sends link purpose) past (plainness past).1
-plainness (Puts (Drops link cause) ∷ past) = given (Drops link cause) past (plainness past).1
+plainness config (Puts (Hands packets) ∷ past) = given config (Hands packets) past (plainness config past).1
+plainness config (Puts (Tells number tell) ∷ past) = given config (Tells number tell) past (plainness config past).1
+plainness config (Puts Routes ∷ past) = given config Routes past (plainness config past).1
+plainness config (Puts (Opens link server login) ∷ past) = given config (Opens link server login) past (plainness config past).1
+plainness config (Puts (LogsInto link packets) ∷ past) = given config (LogsInto link packets) past (plainness config past).1
+plainness config (Puts (Sends link purpose) ∷ past) = given config (Sends link purpose) past (plainness config past).1
+plainness config (Puts (Drops link cause) ∷ past) = given config (Drops link cause) past (plainness config past).1
 
 -- what is owed is plain, but for the direct answer to the worker's
-pub plain_unless_answered : (past : List Item) → is_answered past ≡ false → is_plain (owed past) ≡ true
-plain_unless_answered past not_answered = (plainness past).0 not_answered
+pub plain_unless_answered : (config : Config) (past : List Item) → is_answered past ≡ false → is_plain (owed config past) ≡ true
+plain_unless_answered config past not_answered = (plainness config past).0 not_answered
 
 -- a step that is plain opens no link
 opened_plainly : (put : Put) (others : List Put) → is_plain (put ∷ others) ≡ true → opens (Puts put) ≡ None
 opened_plainly (Hands packets) others p = refl
 opened_plainly (Tells number tell) others p = refl
-opened_plainly (Routes login) others p = refl
+opened_plainly Routes others p = refl
 opened_plainly (Opens link server login) others p = absurd cc
 opened_plainly (LogsInto link packets) others p = refl
 opened_plainly (Sends link purpose) others p = refl
@@ -203,12 +251,13 @@ due_opens_none (comes has a it) = refl
 due_opens_none (connects p f c) = refl
 due_opens_none (takes p f) = refl
 
-pub step_opens_none : {config : Config} {past : List Item} {item : Item} → Step config past item → is_plain (owed past) ≡ true
+pub step_opens_none : {config : Config} {past : List Item} {item : Item} → Step config past item → is_plain (owed config past) ≡ true
     → opens item ≡ None
 step_opens_none (pays {put = put} {others = others} o) plain = opened_plainly put others (rw o at plain)
-step_opens_none (asks o n p k l) plain = refl
-step_opens_none (prepares o n k c) plain = refl
-step_opens_none (sends o n p s k c) plain = refl
+step_opens_none (asks o n p g w) plain = refl
+step_opens_none (prepares o n has f) plain = refl
+step_opens_none (plays o n has f s) plain = refl
+step_opens_none (sends o n p s g f d) plain = refl
 step_opens_none (floods o n p above) plain = refl
 step_opens_none (reads o n due) plain = due_opens_none due
 
@@ -219,39 +268,49 @@ due_unanswered (takes p f) = refl
 
 pub step_unanswered : {config : Config} {past : List Item} {item : Item} → Step config past item → is_answered (item ∷ past) ≡ false
 step_unanswered (pays o) = refl
-step_unanswered (asks o n p k l) = refl
-step_unanswered (prepares o n k c) = refl
-step_unanswered (sends o n p s k c) = refl
+step_unanswered (asks o n p g w) = refl
+step_unanswered (prepares o n has f) = refl
+step_unanswered (plays o n has f s) = refl
+step_unanswered (sends o n p s g f d) = refl
 step_unanswered (floods o n p above) = refl
 step_unanswered (reads o n due) = due_unanswered due
 
 -- so behind one step all are plain
-pub goes_plainly : {config : Config} {past now : List Item} → GoesOn config past now → is_plain (owed past) ≡ true
-    → is_plain (owed now) ≡ true
+pub goes_plainly : {config : Config} {past now : List Item} → GoesOn config past now → is_plain (owed config past) ≡ true
+    → is_plain (owed config now) ≡ true
 goes_plainly stays plain = plain
 goes_plainly {config} (goes_then {now = now} {item = item} before is_next) plain =
-    plain_unless_answered (item ∷ now) (step_unanswered (of_next config now item is_next))
+    plain_unless_answered config (item ∷ now) (step_unanswered (of_next config now item is_next))
 
--- A session that asks owes nothing
+-- A session that asks owes nothing, and isn't over
 
-owes_no_question : (past : List Item) (login : Login) (others : List Put) → owed past ≡ Routes login ∷ others → ⊥
-owes_no_question past login others o = by_test (is_answered past) refl
+no_question : (found : Target) (link : Option ℕ) (next : ℕ) (login : Option Login) (late : Bool) (number : ℕ) (others : List Put)
+    → after_route found link next login late number ≡ Routes ∷ others → ⊥
+no_question Nowhere link next login true number others e = cc
+no_question Nowhere link next login false number others e = cc
+no_question (Primary server) None next (Some login) late number others e = cc
+no_question (Primary server) None next None late number others e = cc
+no_question (Primary server) (Some link) next login late number others e = cc
+no_question (Replica server) None next (Some login) late number others e = cc
+no_question (Replica server) None next None late number others e = cc
+no_question (Replica server) (Some link) next login late number others e = cc
+
+owes_no_question : (config : Config) (past : List Item) (others : List Put) → owed config past ≡ Routes ∷ others → ⊥
+owes_no_question config past others o = by_test (is_answered past) refl
   where
-    by_asked : (link server : ℕ) (asked : Option Login) → after_route link server asked ≡ Routes login ∷ others → ⊥
-    by_asked link server (Some its) e = cc
-    by_asked link server None e = cc
-
-    by_answer : (past : List Item) → is_answered past ≡ true → owed past ≡ Routes login ∷ others → ⊥
+    by_answer : (past : List Item) → is_answered past ≡ true → owed config past ≡ Routes ∷ others → ⊥
     by_answer [] t e = absurd cc
-    by_answer (Routed link server ∷ past) t e = by_asked link server (asking past) e
-    by_answer (Accepted session scramble ∷ past) t e = absurd cc
+    by_answer (Routed words loads next found ∷ past) t e =
+        no_question found _ next _ _ _ others e
+    by_answer (Accepted session scramble reading ∷ past) t e = absurd cc
     by_answer (TurnsAway told ∷ past) t e = absurd cc
-    by_answer (Began link server ∷ past) t e = absurd cc
+    by_answer (Began link server reading ∷ past) t e = absurd cc
     by_answer (ClientBytes bytes ∷ past) t e = absurd cc
     by_answer (LinkReady link ∷ past) t e = absurd cc
     by_answer (LinkBytes link bytes ∷ past) t e = absurd cc
     by_answer (ClientGone ∷ past) t e = absurd cc
     by_answer (LinkLost link ∷ past) t e = absurd cc
+    by_answer (Ticks reading ∷ past) t e = absurd cc
     by_answer (Comes link said ∷ past) t e = absurd cc
     by_answer (Connects said ∷ past) t e = absurd cc
     by_answer (Takes judged number ∷ past) t e = absurd cc
@@ -261,151 +320,68 @@ owes_no_question past login others o = by_test (is_answered past) refl
 
     by_test : (test : Bool) → is_answered past ≡ test → ⊥
     by_test true t = by_answer past t o
-    by_test false t = let plain : false ≡ true = rw o at (plain_unless_answered past t) in cc
+    by_test false t = let plain : false ≡ true = rw o at (plain_unless_answered config past t) in cc
 
-clash : {A : Type 0} {login : Login} {now : Option Login} → now ≡ None → now ≡ Some login → A
-clash {login = login} none some = let both : None ≡ Some login = sym none ∙ some in absurd cc
+-- what is true where a session asks
+abbrev Open : Config → List Item → Type 0
+Open config past = (owed config past ≡ []) × (is_over past ≡ false)
 
-paid_owing : (put : Put) (others : List Put) (past : List Item) (login : Login) → owed past ≡ put ∷ others
-    → asking past ≡ None → asking (Puts put ∷ past) ≡ Some login → owed (Puts put ∷ past) ≡ []
-paid_owing (Routes its) others past login o none a = absurd (owes_no_question past its others o)
-paid_owing (Hands packets) others past login o none a = clash none a
-paid_owing (Tells number tell) others past login o none a = clash none a
-paid_owing (Opens link server its) others past login o none a = clash none a
-paid_owing (LogsInto link packets) others past login o none a = clash none a
-paid_owing (Sends link purpose) others past login o none a = clash none a
-paid_owing (Drops link cause) others past login o none a = clash none a
-paid_owing (Closes reason) others past login o none a = clash none a
+clash : {A : Type 0} {asks : Bool} → asks ≡ false → asks ≡ true → A
+clash none some = let both : false ≡ true = sym none ∙ some in absurd cc
 
-due_owing : {config : Config} {past : List Item} {item : Item} {login : Login} → Due config past item → asking past ≡ None
-    → asking (item ∷ past) ≡ Some login → owed (item ∷ past) ≡ []
-due_owing (comes has a it) none some = clash none some
-due_owing (connects p f c) none some = clash none some
-due_owing (takes p f) none some = clash none some
+paid_open : (config : Config) (put : Put) (others : List Put) (past : List Item) → owed config past ≡ put ∷ others
+    → asking past ≡ false → asking (Puts put ∷ past) ≡ true → Open config (Puts put ∷ past)
+paid_open config Routes others past o none a = absurd (owes_no_question config past others o)
+paid_open config (Hands packets) others past o none a = clash none a
+paid_open config (Tells number tell) others past o none a = clash none a
+paid_open config (Opens link server its) others past o none a = clash none a
+paid_open config (LogsInto link packets) others past o none a = clash none a
+paid_open config (Sends link purpose) others past o none a = clash none a
+paid_open config (Drops link cause) others past o none a = clash none a
+paid_open config (Closes reason) others past o none a = clash none a
 
-step_owing : {config : Config} {past : List Item} {item : Item} {login : Login} → Step config past item → asking past ≡ None
-    → asking (item ∷ past) ≡ Some login → owed (item ∷ past) ≡ []
-step_owing {past = past} {login = login} (pays {put = put} {others = others} o) none some = paid_owing put others past login o none some
-step_owing (asks o n p k l) none some = rw o refl
-step_owing (prepares o n k c) none some = clash none some
-step_owing (sends o n p s k c) none some = clash none some
-step_owing (floods o n p above) none some = clash none some
-step_owing (reads o n due) none some = due_owing due none some
-
-input_owing : {login : Login} (item : Item) (past : List Item) → IsInput item past → asking past ≡ None
-    → asking (item ∷ past) ≡ Some login → owed (item ∷ past) ≡ []
-input_owing (ClientBytes bytes) past input none some = clash none some
-input_owing ClientGone past input none some = clash none some
-input_owing (LinkReady link) past input none some = clash none some
-input_owing (LinkBytes link bytes) past input none some = clash none some
-input_owing (LinkLost link) past input none some = clash none some
-input_owing _ past input none some = absurd input
-
-begins_owing : {login : Login} (item : Item) → IsBeginning item → asking (item ∷ []) ≡ Some login → owed (item ∷ []) ≡ []
-begins_owing (Accepted session scramble) its some = absurd cc
-begins_owing (TurnsAway told) its some = absurd cc
-begins_owing (Began link server) its some = absurd cc
-begins_owing _ its some = absurd its
-
-pub asks_owing_nothing : {config : Config} {past : List Item} {login : Login} → IsRecord config past → asking past ≡ Some login
-    → owed past ≡ []
-asks_owing_nothing (begins {item = item} its) some = begins_owing item its some
-asks_owing_nothing {config} (record_steps {past = past} {item = item} legal is_next) some =
-    step_owing (of_next config past item is_next) (goes_unasking config past item is_next) some
-asks_owing_nothing (answers legal asked) some = absurd cc
-asks_owing_nothing (hears {past = past} {item = item} legal rests none n input) some = input_owing item past input none some
-asks_owing_nothing (starves legal once can its) some = absurd cc
-
--- and it isn't over
-
-paid_open : {A : Type 0} {login : Login} (put : Put) (others : List Put) (past : List Item) → owed past ≡ put ∷ others → asking past ≡ None
-    → asking (Puts put ∷ past) ≡ Some login → A
-paid_open (Routes its) others past o none a = absurd (owes_no_question past its others o)
-paid_open (Hands packets) others past o none a = clash none a
-paid_open (Tells number tell) others past o none a = clash none a
-paid_open (Opens link server its) others past o none a = clash none a
-paid_open (LogsInto link packets) others past o none a = clash none a
-paid_open (Sends link purpose) others past o none a = clash none a
-paid_open (Drops link cause) others past o none a = clash none a
-paid_open (Closes reason) others past o none a = clash none a
-
-due_open : {A : Type 0} {config : Config} {past : List Item} {item : Item} {login : Login} → Due config past item → asking past ≡ None
-    → asking (item ∷ past) ≡ Some login → A
+due_open : {config : Config} {past : List Item} {item : Item} → Due config past item → asking past ≡ false
+    → asking (item ∷ past) ≡ true → Open config (item ∷ past)
 due_open (comes has a it) none some = clash none some
 due_open (connects p f c) none some = clash none some
 due_open (takes p f) none some = clash none some
 
-step_open : {config : Config} {past : List Item} {item : Item} {login : Login} → Step config past item → asking past ≡ None
-    → asking (item ∷ past) ≡ Some login → is_over (item ∷ past) ≡ false
-step_open {past = past} (pays {put = put} {others = others} o) none some = paid_open put others past o none some
-step_open (asks o n p k l) none some = n
-step_open (prepares o n k c) none some = clash none some
-step_open (sends o n p s k c) none some = clash none some
+step_open : {config : Config} {past : List Item} {item : Item} → Step config past item → asking past ≡ false
+    → asking (item ∷ past) ≡ true → Open config (item ∷ past)
+step_open {config} {past} (pays {put = put} {others = others} o) none some = paid_open config put others past o none some
+step_open (asks o n p g w) none some = (rw o refl, n)
+step_open (prepares o n has f) none some = clash none some
+step_open (plays o n has f s) none some = clash none some
+step_open (sends o n p s g f d) none some = clash none some
 step_open (floods o n p above) none some = clash none some
 step_open (reads o n due) none some = due_open due none some
 
-input_open : {A : Type 0} {login : Login} (item : Item) (past : List Item) → IsInput item past → asking past ≡ None
-    → asking (item ∷ past) ≡ Some login → A
-input_open (ClientBytes bytes) past input none some = clash none some
-input_open ClientGone past input none some = clash none some
-input_open (LinkReady link) past input none some = clash none some
-input_open (LinkBytes link bytes) past input none some = clash none some
-input_open (LinkLost link) past input none some = clash none some
-input_open _ past input none some = absurd input
+input_open : (config : Config) (item : Item) (past : List Item) → IsInput item past → asking past ≡ false
+    → asking (item ∷ past) ≡ true → Open config (item ∷ past)
+input_open config (ClientBytes bytes) past input none some = clash none some
+input_open config ClientGone past input none some = clash none some
+input_open config (LinkReady link) past input none some = clash none some
+input_open config (LinkBytes link bytes) past input none some = clash none some
+input_open config (LinkLost link) past input none some = clash none some
+input_open config (Ticks reading) past input none some = clash none some
+input_open config _ past input none some = absurd input
 
-begins_open : {A : Type 0} {login : Login} (item : Item) → IsBeginning item → asking (item ∷ []) ≡ Some login → A
-begins_open (Accepted session scramble) its some = absurd cc
-begins_open (TurnsAway told) its some = absurd cc
-begins_open (Began link server) its some = absurd cc
-begins_open _ its some = absurd its
+begins_open : (config : Config) (item : Item) → IsBeginning item → asking (item ∷ []) ≡ true → Open config (item ∷ [])
+begins_open config (Accepted session scramble reading) its some = absurd cc
+begins_open config (TurnsAway told) its some = absurd cc
+begins_open config (Began link server reading) its some = absurd cc
+begins_open config _ its some = absurd its
 
-pub asks_open : {config : Config} {past : List Item} {login : Login} → IsRecord config past → asking past ≡ Some login
-    → is_over past ≡ false
-asks_open (begins {item = item} its) some = begins_open item its some
-asks_open {config} (record_steps {past = past} {item = item} legal is_next) some =
+open_asking : {config : Config} {past : List Item} → IsRecord config past → asking past ≡ true → Open config past
+open_asking {config} (begins {item = item} its) some = begins_open config item its some
+open_asking {config} (record_steps {past = past} {item = item} legal is_next) some =
     step_open (of_next config past item is_next) (goes_unasking config past item is_next) some
-asks_open (answers legal asked) some = absurd cc
-asks_open (hears {past = past} {item = item} legal rests none n input) some = input_open item past input none some
-asks_open (starves legal once can its) some = absurd cc
+open_asking (answers legal asked) some = absurd cc
+open_asking {config} (hears {past = past} {item = item} legal rests none n input) some = input_open config item past input none some
+open_asking (starves legal once can its) some = absurd cc
 
--- A session that is kept on a link asks for none
+pub asks_owing_nothing : {config : Config} {past : List Item} → IsRecord config past → asking past ≡ true → owed config past ≡ []
+asks_owing_nothing legal some = (open_asking legal some).0
 
-keeps : (item : Item) (past : List Item) (link : ℕ) → kept_on past ≡ Some link → (kept : ℕ) × (kept_on (item ∷ past) ≡ Some kept)
-keeps item past link k = by_opening (opens item) refl
-  where
-    by_opening : (opened : Option (ℕ × ℕ)) → opens item ≡ opened → (kept : ℕ) × (kept_on (item ∷ past) ≡ Some kept)
-    by_opening None o = (link, rw o k)
-    by_opening (Some opened) o = (opened.0, rw o refl)
-
-paid_unasking : (put : Put) (others : List Put) (past : List Item) → owed past ≡ put ∷ others → asking past ≡ None
-    → asking (Puts put ∷ past) ≡ None
-paid_unasking (Routes its) others past o none = absurd (owes_no_question past its others o)
-paid_unasking (Hands packets) others past o none = none
-paid_unasking (Tells number tell) others past o none = none
-paid_unasking (Opens link server its) others past o none = none
-paid_unasking (LogsInto link packets) others past o none = none
-paid_unasking (Sends link purpose) others past o none = none
-paid_unasking (Drops link cause) others past o none = none
-paid_unasking (Closes reason) others past o none = none
-
-due_unasking : {config : Config} {past : List Item} {item : Item} → Due config past item → asking past ≡ None → asking (item ∷ past) ≡ None
-due_unasking (comes has a it) none = none
-due_unasking (connects p f c) none = none
-due_unasking (takes p f) none = none
-
-step_unasking : {config : Config} {past : List Item} {item : Item} (link : ℕ) → Step config past item → kept_on past ≡ Some link
-    → asking past ≡ None → asking (item ∷ past) ≡ None
-step_unasking {past = past} link (pays {put = put} {others = others} o) k none = paid_unasking put others past o none
-step_unasking link (asks o n p nowhere l) k none = let both : None ≡ Some link = sym nowhere ∙ k in absurd cc
-step_unasking link (prepares o n on c) k none = none
-step_unasking link (sends o n p s on c) k none = none
-step_unasking link (floods o n p above) k none = none
-step_unasking link (reads o n due) k none = due_unasking due none
-
-pub goes_unasking_on : {config : Config} {past now : List Item} (link : ℕ) → GoesOn config past now → kept_on past ≡ Some link
-    → asking past ≡ None → (kept : ℕ) × (kept_on now ≡ Some kept) × (asking now ≡ None)
-goes_unasking_on link stays k none = (link, k, none)
-goes_unasking_on {config} link (goes_then {now = now} {item = item} before is_next) k none =
-    let so_far = goes_unasking_on link before k none in
-    let kept = keeps item now so_far.0 so_far.1 in
-    (kept.0, kept.1, step_unasking so_far.0 (of_next config now item is_next) so_far.1 so_far.2)
+pub asks_open : {config : Config} {past : List Item} → IsRecord config past → asking past ≡ true → is_over past ≡ false
+asks_open legal some = (open_asking legal some).1

@@ -23,7 +23,7 @@ use Rattle.rws_record.specs.declared.command.Command.{Command}
 use Rattle.rws_record.specs.Item.{Item}
 use Rattle.rws_record.specs.Item.Item.{Floods}
 use Rattle.rws_record.specs.Values.{asking, awaited, exchange, fronted, held, link_held, linked, links, pending, unread, is_over}
-use Rattle.rws_record.specs.Rules.{next, coming, due_route, due_prepare, due_send, due_flood, flood_limit, due_arrival, due_take, taking, ◌or◌}
+use Rattle.rws_record.specs.Rules.{next, coming, due_route, due_sends, due_flood, flood_limit, due_arrival, due_take, taking, ◌or◌}
 use Rattle.rws_record.proofs.StepLemmas.{neither, rests_with_nothing_due}
 
 -- No link has anything to say
@@ -116,9 +116,8 @@ pub data Idles (link : LinkState) : Type 0 where
 -- what a session that rests and goes on holds
 pub record Rested (config : Config) (past : List Item) : Type 0 where
   -- the worker needn't be asked, no link waits to be prepared, and the pending command needn't be sent
-  pub routed : due_route past ≡ None
-  pub prepared : due_prepare past ≡ None
-  pub sent : due_send past ≡ None
+  pub routed : due_route config past ≡ None
+  pub sent : due_sends config (links past) past ≡ None
   -- behind a pending command the client sent no more than it may
   pub room : (command : Command) → pending past ≡ Some command → length (held config past) ≤ flood_limit config
   -- where none is pending, nothing comes of the client
@@ -146,18 +145,16 @@ idles_of link (rests is) a = at_rest is
 idles_of link (enters is f) a = at_login is f
 idles_of link (waits {e = x} is f) a = let clash : Some x ≡ None = sym (ap awaited is) ∙ a in absurd cc
 
-pub rested : (config : Config) (past : List Item) → next config past ≡ None → asking past ≡ None → is_over past ≡ false
+pub rested : (config : Config) (past : List Item) → next config past ≡ None → asking past ≡ false → is_over past ≡ false
     → Rested config past
 rested config past e a n =
-    let route = neither (due_route past) (due_prepare past or (due_send past or (due_flood config past or (due_arrival (links past) past or due_take config past))))
+    let route = neither (due_route config past) (due_sends config (links past) past or (due_flood config past or (due_arrival (links past) past or due_take config past)))
     (rests_with_nothing_due config past e a n) in
-    let prepare = neither (due_prepare past) (due_send past or (due_flood config past or (due_arrival (links past) past or due_take config past))) route.1 in
-    let all = neither (due_send past) (due_flood config past or (due_arrival (links past) past or due_take config past)) prepare.1 in
+    let all = neither (due_sends config (links past) past) (due_flood config past or (due_arrival (links past) past or due_take config past)) route.1 in
     let later = neither (due_flood config past) (due_arrival (links past) past or due_take config past) all.1 in
     let behind = neither (due_arrival (links past) past) (due_take config past) later.1 in
     record {
       routed = route.0;
-      prepared = prepare.0;
       sent = all.0;
       room = λ command p. no_flood config past command p later.0;
       client = λ p.

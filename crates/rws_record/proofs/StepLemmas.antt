@@ -1,8 +1,8 @@
 -- How a legal record goes on: what its newest item says of the record below it.
-use Rattle.std.proofs.Common.{◌≡◌, ℕ, suc, ◌+◌, ◌<◌, Bool, true, false, List, [], ◌∷◌, length, refl, subst, arith, inl, inr, Option, Some, None}
-use Rattle.std.specs.Prelude.{◌⊎◌, Contains, if◌then◌else◌}
+use Rattle.std.proofs.Common.{◌≡◌, ℕ, suc, ◌+◌, ◌<◌, Bool, true, false, List, [], ◌∷◌, length, refl, ap, subst, arith, inl, inr, Option, Some, None}
+use Rattle.std.specs.Prelude.{◌⊎◌, Contains, slice_get}
 use Rattle.std.specs.Option.{option_map}
-use Rattle.std.proofs.lemmas.Bool.{cases_lt, lt-ltb, le-ltb}
+use Rattle.std.proofs.lemmas.Bool.{cases_lt, eqb-true, lt-ltb, le-ltb}
 use Rattle.rws_wire.specs.declared.close_reason.CloseReason.{CloseReason}
 use Rattle.rws_wire.specs.declared.payload.Payload.{Payload}
 use Rattle.rws_native.specs.declared.login.Login.{Login}
@@ -15,12 +15,12 @@ use Rattle.rws_link.specs.Stepping.{step}
 use Rattle.rws_config.specs.declared.config.Config.{Config}
 use Rattle.rws_record.specs.declared.command.Command.{Command}
 use Rattle.rws_record.specs.Item.{Item, Put}
-use Rattle.rws_record.specs.Item.Item.{ClientBytes, LinkReady, LinkBytes, ClientGone, LinkLost, Comes, Connects, Takes, Floods, Puts}
+use Rattle.rws_record.specs.Item.Item.{ClientBytes, LinkReady, LinkBytes, ClientGone, LinkLost, Ticks, Comes, Connects, Takes, Floods, Puts}
 use Rattle.rws_record.specs.Item.Put.{Routes, Sends}
-use Rattle.rws_record.specs.Item.Purpose.{Prepares, Asks}
+use Rattle.rws_record.specs.Item.Purpose.{Prepares, Asks, Plays}
 use Rattle.rws_record.specs.Judging.{judged}
-use Rattle.rws_record.specs.Values.{asking, fronted, opens, held, links, linked, login_of, kept_on, pending, sent_on, is_over}
-use Rattle.rws_record.specs.Rules.{next, next_by, owed, due, due_route, due_prepare, due_send, due_flood, flood_by, flood_limit, due_arrival, due_take, route_by, prepare_by, send_by, is_free, coming, take_by, unless_asking, ◌or◌}
+use Rattle.rws_record.specs.Values.{accepted, asking, cursor, fronted, goes_on, opens, held, links, linked, pending, routing, sent_on, is_over}
+use Rattle.rws_record.specs.Rules.{next, next_by, owed, due, due_route, due_on, due_sends, due_flood, flood_by, flood_limit, due_arrival, due_take, route_by, prepare_by, play_by, ask_by, is_free, is_link, coming, take_by, unless_asking, ◌or◌}
 use Rattle.rws_record.proofs.LinkedLemmas.{Says, says}
 use Rattle.rws_record.specs.Record.{IsInput}
 
@@ -42,17 +42,21 @@ pub data Due (config : Config) (past : List Item) : Item → Type 0 where
 
 -- how a record goes on by a step of its own
 pub data Step (config : Config) (past : List Item) : Item → Type 0 where
-  pays : {put : Put} {others : List Put} → owed past ≡ put ∷ others → Step config past (Puts put)
-  asks : {command : Command} {login : Login} → owed past ≡ [] → is_over past ≡ false → pending past ≡ Some command
-      → kept_on past ≡ None → login_of past ≡ Some login → Step config past (Puts (Routes login))
-  prepares : {link : ℕ} → owed past ≡ [] → is_over past ≡ false → kept_on past ≡ Some link → is_free false link past ≡ true
+  pays : {put : Put} {others : List Put} → owed config past ≡ put ∷ others → Step config past (Puts put)
+  asks : {command : Command} → owed config past ≡ [] → is_over past ≡ false → pending past ≡ Some command
+      → goes_on config past ≡ None → (routing config past).waits ≡ false → Step config past (Puts Routes)
+  prepares : {link : ℕ} → owed config past ≡ [] → is_over past ≡ false → Contains (links past) link → is_free false link past ≡ true
       → Step config past (Puts (Sends link Prepares))
-  sends : {link : ℕ} {command : Command} → owed past ≡ [] → is_over past ≡ false → pending past ≡ Some command
-      → sent_on past ≡ None → kept_on past ≡ Some link → is_free true link past ≡ true
+  plays : {link : ℕ} {command : Command} → owed config past ≡ [] → is_over past ≡ false → Contains (links past) link
+      → is_free true link past ≡ true → slice_get (accepted past) (cursor link past) ≡ Some command
+      → Step config past (Puts (Sends link (Plays command)))
+  sends : {link : ℕ} {command : Command} → owed config past ≡ [] → is_over past ≡ false → pending past ≡ Some command
+      → sent_on past ≡ None → goes_on config past ≡ Some link → is_free true link past ≡ true
+      → slice_get (accepted past) (cursor link past) ≡ None
       → Step config past (Puts (Sends link (Asks command)))
-  floods : {command : Command} → owed past ≡ [] → is_over past ≡ false → pending past ≡ Some command
+  floods : {command : Command} → owed config past ≡ [] → is_over past ≡ false → pending past ≡ Some command
       → flood_limit config < length (held config past) → Step config past (Floods (flood_limit config + 1))
-  reads : {item : Item} → owed past ≡ [] → is_over past ≡ false → Due config past item → Step config past item
+  reads : {item : Item} → owed config past ≡ [] → is_over past ≡ false → Due config past item → Step config past item
 
 as_due : {config : Config} {past : List Item} {one other : Item} → one ≡ other → Due config past one → Due config past other
 as_due {config} {past} same due = subst (Due config past) same due
@@ -62,43 +66,84 @@ pub either : {A : Type 0} (a b : Option A) (x : A) → (a or b) ≡ Some x → (
 either (Some found) b x e = inl e
 either None b x e = inr e
 
+-- the first of two, or else the second
+first_or : {A : Type 0} (a b : Option A) (x : A) → (a or b) ≡ Some x → (a ≡ Some x) ⊎ ((a ≡ None) × (b ≡ Some x))
+first_or (Some found) b x e = inl e
+first_or None b x e = inr (refl, e)
+
 -- neither of two
 pub neither : {A : Type 0} (a b : Option A) → (a or b) ≡ None → (a ≡ None) × (b ≡ None)
 neither (Some found) b e = absurd cc
 neither None b e = (refl, e)
 
 module _ (config : Config) (past : List Item) (item : Item) where
-  of_route : (command : Option Command) (kept : Option ℕ) (login : Option Login) → owed past ≡ [] → is_over past ≡ false
-      → pending past ≡ command → kept_on past ≡ kept → login_of past ≡ login → route_by command kept login ≡ Some item
+  of_route : (command : Option Command) (goes : Option ℕ) (waits : Bool) → owed config past ≡ [] → is_over past ≡ false
+      → pending past ≡ command → goes_on config past ≡ goes → (routing config past).waits ≡ waits
+      → route_by command goes waits ≡ Some item → Step config past item
+  of_route None goes waits o n p g w e = absurd cc
+  of_route (Some command) (Some link) waits o n p g w e = absurd cc
+  of_route (Some command) None true o n p g w e = absurd cc
+  of_route (Some command) None false o n p g w e =
+      let same : Puts Routes ≡ item = cc in subst (Step config past) same (asks o n p g w)
+
+  of_prepare : (link : ℕ) (free : Bool) → owed config past ≡ [] → is_over past ≡ false → Contains (links past) link
+      → is_free false link past ≡ free → prepare_by free link ≡ Some item → Step config past item
+  of_prepare link true o n has f e =
+      let same : Puts (Sends link Prepares) ≡ item = cc in subst (Step config past) same (prepares o n has f)
+  of_prepare link false o n has f e = absurd cc
+
+  of_play : (link : ℕ) (free : Bool) (entry : Option Command) → owed config past ≡ [] → is_over past ≡ false → Contains (links past) link
+      → is_free true link past ≡ free → slice_get (accepted past) (cursor link past) ≡ entry → play_by free link entry ≡ Some item
       → Step config past item
-  of_route None kept login o n p k l e = absurd cc
-  of_route (Some command) (Some link) login o n p k l e = absurd cc
-  of_route (Some command) None None o n p k l e = absurd cc
-  of_route (Some command) None (Some login) o n p k l e =
-      let same : Puts (Routes login) ≡ item = cc in subst (Step config past) same (asks o n p k l)
+  of_play link true (Some command) o n has f s e =
+      let same : Puts (Sends link (Plays command)) ≡ item = cc in subst (Step config past) same (plays o n has f s)
+  of_play link true None o n has f s e = absurd cc
+  of_play link false entry o n has f s e = absurd cc
 
-  of_prepare : (kept : Option ℕ) → owed past ≡ [] → is_over past ≡ false → kept_on past ≡ kept
-      → prepare_by kept (λ link. is_free false link past) ≡ Some item → Step config past item
-  of_prepare None o n k e = absurd cc
-  of_prepare (Some link) o n k e = by_test (is_free false link past) refl e
-    where
-      by_test : (test : Bool) → is_free false link past ≡ test
-          → (if test then Some (Puts (Sends link Prepares)) else None) ≡ Some item → Step config past item
-      by_test true t e = let same : Puts (Sends link Prepares) ≡ item = cc in subst (Step config past) same (prepares o n k t)
-      by_test false t e = absurd cc
+  played_all : (link : ℕ) (entry : Option Command) → play_by true link entry ≡ None → entry ≡ None
+  played_all link None e = refl
+  played_all link (Some command) e = absurd cc
 
-  of_send : (command : Option Command) (sent kept : Option ℕ) → owed past ≡ [] → is_over past ≡ false
-      → pending past ≡ command → sent_on past ≡ sent → kept_on past ≡ kept
-      → send_by command sent kept (λ link. is_free true link past) ≡ Some item → Step config past item
-  of_send None sent kept o n p s k e = absurd cc
-  of_send (Some command) (Some to) kept o n p s k e = absurd cc
-  of_send (Some command) None None o n p s k e = absurd cc
-  of_send (Some command) None (Some link) o n p s k e = by_test (is_free true link past) refl e
-    where
-      by_test : (test : Bool) → is_free true link past ≡ test
-          → (if test then Some (Puts (Sends link (Asks command))) else None) ≡ Some item → Step config past item
-      by_test true t e = let same : Puts (Sends link (Asks command)) ≡ item = cc in subst (Step config past) same (sends o n p s k t)
-      by_test false t e = absurd cc
+  goes_there : (link : ℕ) (goes : Option ℕ) → is_link link goes ≡ true → goes ≡ Some link
+  goes_there link None e = absurd cc
+  goes_there link (Some other) e = ap Some (eqb-true other link e)
+
+  of_ask : (link : ℕ) (free goes : Bool) (command : Option Command) (sent : Option ℕ) → owed config past ≡ [] → is_over past ≡ false
+      → is_free true link past ≡ free → is_link link (goes_on config past) ≡ goes → pending past ≡ command → sent_on past ≡ sent
+      → play_by free link (slice_get (accepted past) (cursor link past)) ≡ None → ask_by free link goes command sent ≡ Some item → Step config past item
+  of_ask link true true (Some command) None o n f g p s none e =
+      let same : Puts (Sends link (Asks command)) ≡ item = cc in
+      subst (Step config past) same (sends o n p s (goes_there link (goes_on config past) g) f
+      (played_all link (slice_get (accepted past) (cursor link past)) none))
+  of_ask link false goes command sent o n f g p s none e = absurd cc
+  of_ask link true false command sent o n f g p s none e = absurd cc
+  of_ask link true true None sent o n f g p s none e = absurd cc
+  of_ask link true true (Some command) (Some on) o n f g p s none e = absurd cc
+
+  of_due_on : (link : ℕ) → owed config past ≡ [] → is_over past ≡ false → Contains (links past) link
+      → due_on config link past ≡ Some item → Step config past item
+  of_due_on link o n has e =
+      elim (either (prepare_by (is_free false link past) link) (play_by (is_free true link past) link (slice_get (accepted past) (cursor link past))
+      or ask_by (is_free true link past) link (is_link link (goes_on config past)) (pending past) (sent_on past)) item e) [
+        | inl prepare ↦ of_prepare link (is_free false link past) o n has refl prepare
+        | inr e ↦ elim (first_or (play_by (is_free true link past) link (slice_get (accepted past) (cursor link past)))
+            (ask_by (is_free true link past) link (is_link link (goes_on config past)) (pending past) (sent_on past)) item e) [
+              | inl play ↦ of_play link (is_free true link past) (slice_get (accepted past) (cursor link past)) o n has refl refl play
+              | inr ask ↦
+                  of_ask link (is_free true link past) (is_link link (goes_on config past)) (pending past) (sent_on past) o n refl refl refl refl
+                  ask.0 ask.1
+            ]
+      ]
+
+  -- a list of links of which each is one of the session's
+  of_sends : (some : List ℕ) → ((link : ℕ) → Contains some link → Contains (links past) link) → owed config past ≡ []
+      → is_over past ≡ false → due_sends config some past ≡ Some item → Step config past item
+  of_sends [] has o n e = absurd cc
+  of_sends (link ∷ others) has o n e =
+      elim (either (due_on config link past) (due_sends config others past) item e) [
+        | inl here ↦ of_due_on link o n (has link (0, omega arith, refl)) here
+        | inr there ↦ of_sends others (λ other at. has other (suc at.0, omega arith, at.2)) o n there
+      ]
 
   its_comes : (link : ℕ) (said : LinkStep) → Contains (links past) link → (step (linked link past)).answer ≡ said
       → Says (linked link past) said → Some (Comes link said) ≡ Some item → Due config past item
@@ -144,7 +189,7 @@ module _ (config : Config) (past : List Item) (item : Item) where
   of_take None (fronts.End packets reason) p f e =
       let same : Connects (fronts.End packets reason) ≡ item = cc in as_due same (connects p f ends_it)
 
-  of_flood : (command : Option Command) → owed past ≡ [] → is_over past ≡ false → pending past ≡ command
+  of_flood : (command : Option Command) → owed config past ≡ [] → is_over past ≡ false → pending past ≡ command
       → option_map (λ (bytes : ℕ). Floods bytes) (flood_by command (flood_limit config) (length (held config past))) ≡ Some item
       → Step config past item
   of_flood None o n p e = absurd cc
@@ -158,64 +203,61 @@ module _ (config : Config) (past : List Item) (item : Item) where
             let none : None ≡ Some item = rw (le-ltb (flood_limit config) (length (held config past)) within) at e in absurd cc
       ]
 
-  of_due : owed past ≡ [] → is_over past ≡ false → due config past ≡ Some item → Step config past item
+  of_due : owed config past ≡ [] → is_over past ≡ false → due config past ≡ Some item → Step config past item
   of_due o n e =
-      elim (either (due_route past) (due_prepare past or (due_send past or (due_flood config past or (due_arrival (links past) past or due_take config past)))) item e) [
-        | inl route ↦ of_route (pending past) (kept_on past) (login_of past) o n refl refl refl route
-        | inr e ↦ elim (either (due_prepare past) (due_send past or (due_flood config past or (due_arrival (links past) past or due_take config past))) item e) [
-          | inl prepare ↦ of_prepare (kept_on past) o n refl prepare
-          | inr e ↦ elim (either (due_send past) (due_flood config past or (due_arrival (links past) past or due_take config past)) item e) [
-            | inl send ↦ of_send (pending past) (sent_on past) (kept_on past) o n refl refl refl send
-            | inr e ↦ elim (either (due_flood config past) (due_arrival (links past) past or due_take config past) item e) [
-              | inl flood ↦ of_flood (pending past) o n refl flood
-              | inr e ↦ elim (either (due_arrival (links past) past) (due_take config past) item e) [
-                | inl arrive ↦ reads o n (of_arrivals (links past) (λ link has. has) arrive)
-                | inr take ↦ reads o n (of_take (pending past) (step_of config.accounts (fronted config past)).0 refl refl take)
-              ]
+      elim (either (due_route config past) (due_sends config (links past) past or (due_flood config past or (due_arrival (links past) past or due_take config past))) item e) [
+        | inl route ↦ of_route (pending past) (goes_on config past) (routing config past).waits o n refl refl refl route
+        | inr e ↦ elim (either (due_sends config (links past) past) (due_flood config past or (due_arrival (links past) past or due_take config past)) item e) [
+          | inl send ↦ of_sends (links past) (λ link has. has) o n send
+          | inr e ↦ elim (either (due_flood config past) (due_arrival (links past) past or due_take config past) item e) [
+            | inl flood ↦ of_flood (pending past) o n refl flood
+            | inr e ↦ elim (either (due_arrival (links past) past) (due_take config past) item e) [
+              | inl arrive ↦ reads o n (of_arrivals (links past) (λ link has. has) arrive)
+              | inr take ↦ reads o n (of_take (pending past) (step_of config.accounts (fronted config past)).0 refl refl take)
             ]
           ]
         ]
       ]
 
-  of_next_by : (list : List Put) (over : Bool) → owed past ≡ list → is_over past ≡ over
+  of_next_by : (list : List Put) (over : Bool) → owed config past ≡ list → is_over past ≡ over
       → next_by list over (due config past) ≡ Some item → Step config past item
   of_next_by (put ∷ others) over o p e = let same : Puts put ≡ item = cc in subst (Step config past) same (pays o)
   of_next_by [] true o p e = absurd cc
   of_next_by [] false o p e = of_due o p e
 
-  of_asking : (login : Option Login) → unless_asking login (next_by (owed past) (is_over past) (due config past)) ≡ Some item
+  of_asking : (asks : Bool) → unless_asking asks (next_by (owed config past) (is_over past) (due config past)) ≡ Some item
       → Step config past item
-  of_asking (Some login) e = absurd cc
-  of_asking None e = of_next_by (owed past) (is_over past) refl refl e
+  of_asking true e = absurd cc
+  of_asking false e = of_next_by (owed config past) (is_over past) refl refl e
 
   pub of_next : next config past ≡ Some item → Step config past item
   of_next e = of_asking (asking past) e
 
 -- a record that goes on isn't asking
-pub goes_unasking : (config : Config) (past : List Item) (item : Item) → next config past ≡ Some item → asking past ≡ None
+pub goes_unasking : (config : Config) (past : List Item) (item : Item) → next config past ≡ Some item → asking past ≡ false
 goes_unasking config past item e = by_asking (asking past) refl e
   where
-    by_asking : (login : Option Login) → asking past ≡ login
-        → unless_asking login (next_by (owed past) (is_over past) (due config past)) ≡ Some item → asking past ≡ None
-    by_asking (Some login) a e = absurd cc
-    by_asking None a e = a
+    by_asking : (asks : Bool) → asking past ≡ asks
+        → unless_asking asks (next_by (owed config past) (is_over past) (due config past)) ≡ Some item → asking past ≡ false
+    by_asking true a e = absurd cc
+    by_asking false a e = a
 
-unasking : (config : Config) (past : List Item) → next config past ≡ None → asking past ≡ None
-    → next_by (owed past) (is_over past) (due config past) ≡ None
-unasking config past e a = let e : next_by (owed past) (is_over past) (due config past) ≡ None = rw a at e in e
+unasking : (config : Config) (past : List Item) → next config past ≡ None → asking past ≡ false
+    → next_by (owed config past) (is_over past) (due config past) ≡ None
+unasking config past e a = let e : next_by (owed config past) (is_over past) (due config past) ≡ None = rw a at e in e
 
 -- a record that rests owes nothing
-pub rests_owing_nothing : (config : Config) (past : List Item) → next config past ≡ None → asking past ≡ None → owed past ≡ []
-rests_owing_nothing config past e a = by_owed (owed past) refl (unasking config past e a)
+pub rests_owing_nothing : (config : Config) (past : List Item) → next config past ≡ None → asking past ≡ false → owed config past ≡ []
+rests_owing_nothing config past e a = by_owed (owed config past) refl (unasking config past e a)
   where
-    by_owed : (list : List Put) → owed past ≡ list → next_by list (is_over past) (due config past) ≡ None → owed past ≡ []
+    by_owed : (list : List Put) → owed config past ≡ list → next_by list (is_over past) (due config past) ≡ None → owed config past ≡ []
     by_owed [] o e = o
     by_owed (put ∷ others) o e = absurd cc
 
 -- and where it isn't over, nothing is due
-pub rests_with_nothing_due : (config : Config) (past : List Item) → next config past ≡ None → asking past ≡ None
+pub rests_with_nothing_due : (config : Config) (past : List Item) → next config past ≡ None → asking past ≡ false
     → is_over past ≡ false → due config past ≡ None
-rests_with_nothing_due config past e a over = by_owed (owed past) (unasking config past e a)
+rests_with_nothing_due config past e a over = by_owed (owed config past) (unasking config past e a)
   where
     by_owed : (list : List Put) → next_by list (is_over past) (due config past) ≡ None → due config past ≡ None
     by_owed [] e = let e : next_by [] false (due config past) ≡ None = rw over at e in e
@@ -229,4 +271,5 @@ input_opens_none ClientGone past input = refl
 input_opens_none (LinkReady link) past input = refl
 input_opens_none (LinkBytes link bytes) past input = refl
 input_opens_none (LinkLost link) past input = refl
+input_opens_none (Ticks reading) past input = refl
 input_opens_none _ past input = absurd input

@@ -1,8 +1,10 @@
 -- Runs of a worker over lists of events, computed by the definition: what each does was reasoned out by hand from the
 -- rules, or by a model that shares nothing with this one. Bytes are written as in a trace.
-use Rattle.std.proofs.Common.{◌≡◌, ℕ, suc, zero, ◌+◌, ◌-◌, ◌*◌, Bool, true, false, List, [], ◌∷◌, ◌++◌, refl, sym, ap, ◌∙◌, append_assoc, append-nil, map, subst, Option, Some, None, codes}
+use Rattle.std.proofs.Common.{◌≡◌, ℕ, suc, zero, ◌+◌, ◌-◌, ◌*◌, Bool, true, false, List, [], ◌∷◌, ◌++◌, refl, sym, ap, ◌∙◌, append_assoc, append-nil, subst, Option, Some, None, codes}
 use Rattle.std.specs.Prelude.{nat_lt, ◌&&◌, if◌then◌else◌}
+use Rattle.rws_wire.specs.declared.close_reason.CloseReason.{CloseReason}
 use Rattle.rws_wire.specs.declared.close_reason.CloseReason.TheVariants.{Quit, OutOfOrder, ResultCut, OutcomeUnknown, SessionState, Memory}
+use Rattle.rws_wire.specs.declared.drop_cause.DropCause.{DropCause}
 use Rattle.rws_wire.specs.declared.drop_cause.DropCause.TheVariants.{BadWire, BadReply, Unasked, End as AtEnd}
 use Rattle.rws_wire.specs.Lenenc.{lenenc, lenenc_bytes}
 use Rattle.rws_wire.specs.Packets.{full_packet, spelling, number_behind}
@@ -18,15 +20,15 @@ use Rattle.rws_reply.specs.ClientForm.{client_ok, client_form}
 use Rattle.rws_token.specs.Lexeme.{same_word}
 use Rattle.rws_words.specs.Words.{refused_names}
 use Rattle.rws_class.specs.Classes.{class_of}
-use Rattle.rws_board.specs.declared.action.Action.{Action}
-use Rattle.rws_board.specs.declared.action.Action.TheVariants.{ToClient, ToLink, Drop, Close}
+use Rattle.rws_board.specs.declared.action.Action.TheVariants.{ToClient, ToLink, Open, Drop, Close}
 use Rattle.rws_board.specs.declared.event.Event.{Event}
 use Rattle.rws_board.specs.declared.event.Event.TheVariants.{Begin, ClientBytes, ClientGone, Clock, LinkBytes, LinkGone, Observed, End}
 use Rattle.rws_board.specs.declared.interaction.Interaction.{Interaction}
 use Rattle.rws_board.specs.declared.interaction.Interaction.TheVariants.{Took, Told}
-use Rattle.rws_pool.specs.declared.events.PoolCall.TheVariants.{Observe}
+use Rattle.rws_pool.specs.declared.events.PoolCall.TheVariants.{Observe, Route}
 use Rattle.rws_pool.specs.declared.words.Round.{Round}
 use Rattle.rws_pool.specs.declared.words.Seen.{Seen}
+use Rattle.rws_pool.specs.declared.words.State.{State}
 use Rattle.rws_pool.specs.declared.words.State.TheVariants.{Down, Master, Slave}
 use Rattle.rws_config.specs.BuiltIn.{built_in}
 use Rattle.rws_record.specs.Item.Item.{Starves}
@@ -110,17 +112,13 @@ legal_over fuel (event ∷ events) run legal settles =
     (legal_over fuel events now now_legal parts.1)
 
 -- the legal run over these events, under the built-in settings, does this
-pub record DoesAll (events : List Event) (interactions : List Interaction) : Type 0 where
+pub record Does (events : List Event) (interactions : List Interaction) : Type 0 where
   run : List Entry
   legal : IsRunOver built_in events run
   does : done_in run ≡ interactions
 
--- it does this, and nothing to the words of the pool
-abbrev pub Does : List Event → List Action → Type 0
-Does events actions = DoesAll events (map Took actions)
-
 pub does_in : (fuel : ℕ) {events : List Event} {interactions : List Interaction} → is_settled fuel events [] ≡ true
-    → done_in (over fuel events []) ≡ interactions → DoesAll events interactions
+    → done_in (over fuel events []) ≡ interactions → Does events interactions
 does_in fuel {events} settles does =
     record { run = over fuel events []; legal = legal_over fuel events [] starts settles; does = does }
 
@@ -156,7 +154,7 @@ module _ (steps session : ℕ) (made : Bool) (before : List Event) (event : Even
       ∙ settled_events steps (Came event ∷ over 16 before [])
       ∙ ap (λ (list : List Event). list ++ event ∷ []) start.heard
 
-  wants_in : DoesAll ((before ++ event ∷ []) ++ after) interactions
+  wants_in : Does ((before ++ event ∷ []) ++ after) interactions
   wants_in = record {
     run = over 16 after (wanting steps session made before event);
     legal = subst (λ (list : List Event). IsRunOver built_in (list ++ after) (over 16 after (wanting steps session made before event))) heard
@@ -179,11 +177,36 @@ from_client session digits = ClientBytes session (hex digits)
 abbrev pub on_link : ℕ → List ℕ → Event
 on_link link digits = LinkBytes link (hex digits)
 
-abbrev pub to_client : ℕ → List ℕ → Action
-to_client session digits = ToClient session (hex digits)
+abbrev pub to_client : ℕ → List ℕ → Interaction
+to_client session digits = Took (ToClient session (hex digits))
 
-abbrev pub to_link : ℕ → List ℕ → Action
-to_link link digits = ToLink link (hex digits)
+abbrev pub to_link : ℕ → List ℕ → Interaction
+to_link link digits = Took (ToLink link (hex digits))
+
+abbrev pub opens : (link server session : ℕ) → Interaction
+opens link server session = Took (Open link server session)
+
+abbrev pub drops : ℕ → DropCause → Interaction
+drops link cause = Took (Drop link cause)
+
+abbrev pub closes : ℕ → CloseReason → Interaction
+closes session reason = Took (Close session reason)
+
+abbrev pub routes : ℕ → Interaction
+routes session = Told (Route session)
+
+abbrev pub takes_in : Round → Interaction
+takes_in round = Told (Observe round)
+
+-- a round of the monitor that names the three servers of the built-in settings, all at one position
+abbrev in_state : State → Option Seen
+in_state state = Some (record { state = state; position = 6 })
+
+abbrev pub round_in : (a b c : State) → Round
+round_in a b c = record { seen = in_state a ∷ in_state b ∷ in_state c ∷ None ∷ None ∷ None ∷ None ∷ [] }
+
+abbrev pub primary_first : Round
+primary_first = round_in Master Slave Slave
 
 -- The runs
 
@@ -224,7 +247,7 @@ out_of_order : Does
     (Begin 1 0 ∷ from_client 1 (codes "010000000e010000010e") ∷ End ∷ [])
     (to_client 1 (codes "0700000100000002000000") ∷
     to_client 1 (codes "1d000001ff84042330385330317061636b657473206f7574206f66206f72646572") ∷
-    Close 1 (OutOfOrder 0 1) ∷ Drop 1 AtEnd ∷ [])
+    closes 1 (OutOfOrder 0 1) ∷ drops 1 AtEnd ∷ [])
 unfolding lenenc lenenc_bytes full_packet spelling number_behind payload_behind first_payload eof_at err_at err_code err_bytes bytes_at number_at fixed_at lenenc_at text_at text_bytes ended state_at texts_at ok_at ok_status texts_bytes ok_bytes prepare_ok_at eof_status prepared_counts column_count is_definition is_row progress role client_ok client_form class_of same_word
 out_of_order = does_in 16 refl refl
 
@@ -233,8 +256,8 @@ unknown_then_quit : Does
     (Begin 1 0 ∷ from_client 1 (codes "0100000077") ∷ from_client 1 (codes "00000000") ∷
     from_client 1 (codes "0100000001") ∷ End ∷ [])
     (to_client 1 (codes "18000001ff1704233038533031756e6b6e6f776e20636f6d6d616e64") ∷
-    to_client 1 (codes "18000001ff1704233038533031756e6b6e6f776e20636f6d6d616e64") ∷ Close 1 Quit ∷
-    Drop 1 AtEnd ∷ [])
+    to_client 1 (codes "18000001ff1704233038533031756e6b6e6f776e20636f6d6d616e64") ∷ closes 1 Quit ∷
+    drops 1 AtEnd ∷ [])
 unfolding lenenc lenenc_bytes full_packet spelling number_behind payload_behind first_payload eof_at err_at err_code err_bytes bytes_at number_at fixed_at lenenc_at text_at text_bytes ended state_at texts_at ok_at ok_status texts_bytes ok_bytes prepare_ok_at eof_status prepared_counts column_count is_definition is_row progress role client_ok client_form class_of same_word
 unknown_then_quit = does_in 16 refl refl
 
@@ -249,43 +272,43 @@ unfolding lenenc lenenc_bytes full_packet spelling number_behind payload_behind 
 not_supported = does_in 16 refl refl
 
 answered_then_lost : Does
-    (Begin 1 0 ∷ from_client 1 (codes "020000000378") ∷ on_link 1 (codes "0700000100000002000000") ∷ LinkGone 1 ∷
+    (Observed primary_first ∷ Begin 1 0 ∷ from_client 1 (codes "020000000378") ∷ on_link 1 (codes "0700000100000002000000") ∷ LinkGone 1 ∷
     End ∷ [])
-    (to_link 1 (codes "020000000378") ∷ to_client 1 (codes "0700000100000002000000") ∷ Close 1 SessionState ∷ [])
+    (takes_in primary_first ∷ routes 1 ∷ to_link 1 (codes "020000000378") ∷ to_client 1 (codes "0700000100000002000000") ∷ closes 1 SessionState ∷ [])
 unfolding lenenc lenenc_bytes full_packet spelling number_behind payload_behind first_payload eof_at err_at err_code err_bytes bytes_at number_at fixed_at lenenc_at text_at text_bytes ended state_at texts_at ok_at ok_status texts_bytes ok_bytes prepare_ok_at eof_status prepared_counts column_count is_definition is_row progress role client_ok client_form class_of same_word
 answered_then_lost = does_in 16 refl refl
 
 -- the link is gone already, so it isn't dropped
 lost_with_a_command : Does
-    (Begin 1 0 ∷ from_client 1 (codes "020000000378") ∷ LinkGone 1 ∷ on_link 1 (codes "0700000100000002000000") ∷
+    (Observed primary_first ∷ Begin 1 0 ∷ from_client 1 (codes "020000000378") ∷ LinkGone 1 ∷ on_link 1 (codes "0700000100000002000000") ∷
     End ∷ [])
-    (to_link 1 (codes "020000000378") ∷ Close 1 OutcomeUnknown ∷ [])
+    (takes_in primary_first ∷ routes 1 ∷ to_link 1 (codes "020000000378") ∷ closes 1 OutcomeUnknown ∷ [])
 unfolding lenenc lenenc_bytes full_packet spelling number_behind payload_behind first_payload eof_at err_at err_code err_bytes bytes_at number_at fixed_at lenenc_at text_at text_bytes ended state_at texts_at ok_at ok_status texts_bytes ok_bytes prepare_ok_at eof_status prepared_counts column_count is_definition is_row progress role client_ok client_form class_of same_word
 lost_with_a_command = does_in 16 refl refl
 
 -- what waits behind a command is taken up when its reply is whole
 one_after_the_other : Does
-    (Begin 1 0 ∷ from_client 1 (codes "020000000378010000000e0100000001") ∷ on_link 1 (codes "0700000100") ∷
+    (Observed primary_first ∷ Begin 1 0 ∷ from_client 1 (codes "020000000378010000000e0100000001") ∷ on_link 1 (codes "0700000100") ∷
     on_link 1 (codes "000002000000") ∷ End ∷ [])
-    (to_link 1 (codes "020000000378") ∷ to_client 1 (codes "0700000100000002000000") ∷
-    to_client 1 (codes "0700000100000002000000") ∷ Close 1 Quit ∷ Drop 1 AtEnd ∷ [])
+    (takes_in primary_first ∷ routes 1 ∷ to_link 1 (codes "020000000378") ∷ to_client 1 (codes "0700000100000002000000") ∷
+    to_client 1 (codes "0700000100000002000000") ∷ closes 1 Quit ∷ drops 1 AtEnd ∷ [])
 unfolding lenenc lenenc_bytes full_packet spelling number_behind payload_behind first_payload eof_at err_at err_code err_bytes bytes_at number_at fixed_at lenenc_at text_at text_bytes ended state_at texts_at ok_at ok_status texts_bytes ok_bytes prepare_ok_at eof_status prepared_counts column_count is_definition is_row progress role client_ok client_form class_of same_word
 one_after_the_other = does_in 16 refl refl
 
 -- an OK that names the GTID 0-1-7 is passed on without the session's state, and without the status bit 0x4000 that tells of it
 ok_without_its_state : Does
-    (Begin 1 0 ∷ from_client 1 (codes "020000000378") ∷
+    (Observed primary_first ∷ Begin 1 0 ∷ from_client 1 (codes "020000000378") ∷
     on_link 1 (codes "1b0000010001000240000000120010096c6173745f6774696405302d312d37") ∷ End ∷ [])
-    (to_link 1 (codes "020000000378") ∷ to_client 1 (codes "0700000100010002000000") ∷ [])
+    (takes_in primary_first ∷ routes 1 ∷ to_link 1 (codes "020000000378") ∷ to_client 1 (codes "0700000100010002000000") ∷ [])
 unfolding lenenc lenenc_bytes full_packet spelling number_behind payload_behind first_payload eof_at err_at err_code err_bytes bytes_at number_at fixed_at lenenc_at text_at text_bytes ended state_at texts_at ok_at ok_status texts_bytes ok_bytes prepare_ok_at eof_status prepared_counts column_count is_definition is_row progress role client_ok client_form class_of same_word
 ok_without_its_state = does_in 16 refl refl
 
 -- what stands where rows stand is a row, even if it could be read as such an OK; an EOF keeps its status
 row_like_an_ok : Does
-    (Begin 1 0 ∷ from_client 1 (codes "020000000378") ∷
+    (Observed primary_first ∷ Begin 1 0 ∷ from_client 1 (codes "020000000378") ∷
     on_link 1 (codes "010000010117000002036465660000000161000c2d000a000000fd000000000005000003fe00000200") ∷
     on_link 1 (codes "070000040000000240000005000005fe00000240") ∷ End ∷ [])
-    (to_link 1 (codes "020000000378") ∷ to_client 1 (codes "0100000101") ∷
+    (takes_in primary_first ∷ routes 1 ∷ to_link 1 (codes "020000000378") ∷ to_client 1 (codes "0100000101") ∷
     to_client 1 (codes "17000002036465660000000161000c2d000a000000fd0000000000") ∷
     to_client 1 (codes "05000003fe00000200") ∷ to_client 1 (codes "0700000400000002400000") ∷
     to_client 1 (codes "05000005fe00000240") ∷ [])
@@ -293,27 +316,27 @@ unfolding lenenc lenenc_bytes full_packet spelling number_behind payload_behind 
 row_like_an_ok = does_in 16 refl refl
 
 error_of_a_server : Does
-    (Begin 1 0 ∷ from_client 1 (codes "020000000378") ∷ on_link 1 (codes "0b000001ff7a042334325330326e6f") ∷
+    (Observed primary_first ∷ Begin 1 0 ∷ from_client 1 (codes "020000000378") ∷ on_link 1 (codes "0b000001ff7a042334325330326e6f") ∷
     from_client 1 (codes "010000000e") ∷ End ∷ [])
-    (to_link 1 (codes "020000000378") ∷ to_client 1 (codes "0b000001ff7a042334325330326e6f") ∷
+    (takes_in primary_first ∷ routes 1 ∷ to_link 1 (codes "020000000378") ∷ to_client 1 (codes "0b000001ff7a042334325330326e6f") ∷
     to_client 1 (codes "0700000100000002000000") ∷ [])
 unfolding lenenc lenenc_bytes full_packet spelling number_behind payload_behind first_payload eof_at err_at err_code err_bytes bytes_at number_at fixed_at lenenc_at text_at text_bytes ended state_at texts_at ok_at ok_status texts_bytes ok_bytes prepare_ok_at eof_status prepared_counts column_count is_definition is_row progress role client_ok client_form class_of same_word
 error_of_a_server = does_in 16 refl refl
 
 -- an EOF where a reply begins
 no_reply : Does
-    (Begin 1 1 ∷ from_client 1 (codes "020000000378") ∷
+    (Observed primary_first ∷ Begin 1 0 ∷ from_client 1 (codes "020000000378") ∷
     on_link 1 (codes "05000001fe0000020017000002036465660000000161000c2d000a000000fd0000000000") ∷ End ∷ [])
-    (to_link 1 (codes "020000000378") ∷ Drop 1 BadReply ∷ Close 1 OutcomeUnknown ∷ [])
+    (takes_in primary_first ∷ routes 1 ∷ to_link 1 (codes "020000000378") ∷ drops 1 BadReply ∷ closes 1 OutcomeUnknown ∷ [])
 unfolding lenenc lenenc_bytes full_packet spelling number_behind payload_behind first_payload eof_at err_at err_code err_bytes bytes_at number_at fixed_at lenenc_at text_at text_bytes ended state_at texts_at ok_at ok_status texts_bytes ok_bytes prepare_ok_at eof_status prepared_counts column_count is_definition is_row progress role client_ok client_form class_of same_word
 no_reply = does_in 16 refl refl
 
 -- packets are passed on as they are whole, however the bytes are cut
 rows_in_parts : Does
-    (Begin 1 0 ∷ from_client 1 (codes "020000000378") ∷ on_link 1 (codes "010000010117000002") ∷
+    (Observed primary_first ∷ Begin 1 0 ∷ from_client 1 (codes "020000000378") ∷ on_link 1 (codes "010000010117000002") ∷
     on_link 1 (codes "036465660000000161000c2d000a000000fd000000000005000003fe00000200") ∷
     on_link 1 (codes "02000004013601000005fb05") ∷ on_link 1 (codes "000006fe00000200") ∷ End ∷ [])
-    (to_link 1 (codes "020000000378") ∷ to_client 1 (codes "0100000101") ∷
+    (takes_in primary_first ∷ routes 1 ∷ to_link 1 (codes "020000000378") ∷ to_client 1 (codes "0100000101") ∷
     to_client 1 (codes "17000002036465660000000161000c2d000a000000fd0000000000") ∷
     to_client 1 (codes "05000003fe00000200") ∷ to_client 1 (codes "020000040136") ∷
     to_client 1 (codes "01000005fb") ∷ to_client 1 (codes "05000006fe00000200") ∷ [])
@@ -321,10 +344,10 @@ unfolding lenenc lenenc_bytes full_packet spelling number_behind payload_behind 
 rows_in_parts = does_in 16 refl refl
 
 error_behind_rows : Does
-    (Begin 4 2 ∷ from_client 4 (codes "020000000378") ∷
+    (Observed primary_first ∷ Begin 4 0 ∷ from_client 4 (codes "020000000378") ∷
     on_link 1 (codes "010000010117000002036465660000000161000c2d000a000000fd000000000005000003fe0000020002000004013512000005ffbd0423485930303064656164206c6f636b") ∷
     End ∷ [])
-    (to_link 1 (codes "020000000378") ∷ to_client 4 (codes "0100000101") ∷
+    (takes_in primary_first ∷ routes 4 ∷ to_link 1 (codes "020000000378") ∷ to_client 4 (codes "0100000101") ∷
     to_client 4 (codes "17000002036465660000000161000c2d000a000000fd0000000000") ∷
     to_client 4 (codes "05000003fe00000200") ∷ to_client 4 (codes "020000040135") ∷
     to_client 4 (codes "12000005ffbd0423485930303064656164206c6f636b") ∷ [])
@@ -333,11 +356,11 @@ error_behind_rows = does_in 16 refl refl
 
 -- a reply goes on behind an EOF, and behind an OK, that announces another result
 more_results : Does
-    (Begin 1 0 ∷ from_client 1 (codes "020000000378") ∷
+    (Observed primary_first ∷ Begin 1 0 ∷ from_client 1 (codes "020000000378") ∷
     on_link 1 (codes "010000010117000002036465660000000161000c2d000a000000fd000000000005000003fe00000a0002000004013505000005fe00000a00") ∷
     from_client 1 (codes "010000000e") ∷ on_link 1 (codes "070000060000000a000000") ∷
     on_link 1 (codes "0700000700000002000000") ∷ End ∷ [])
-    (to_link 1 (codes "020000000378") ∷ to_client 1 (codes "0100000101") ∷
+    (takes_in primary_first ∷ routes 1 ∷ to_link 1 (codes "020000000378") ∷ to_client 1 (codes "0100000101") ∷
     to_client 1 (codes "17000002036465660000000161000c2d000a000000fd0000000000") ∷
     to_client 1 (codes "05000003fe00000a00") ∷ to_client 1 (codes "020000040135") ∷
     to_client 1 (codes "05000005fe00000a00") ∷ to_client 1 (codes "070000060000000a000000") ∷
@@ -347,77 +370,78 @@ more_results = does_in 16 refl refl
 
 -- definitions without their number before them
 field_list : Does
-    (Begin 1 0 ∷ from_client 1 (codes "03000000047400") ∷
+    (Observed primary_first ∷ Begin 1 0 ∷ from_client 1 (codes "03000000047400") ∷
     on_link 1 (codes "18000001036465660000000161000c2d000a000000fd0000000000fb") ∷
     on_link 1 (codes "05000002fe00000200") ∷ from_client 1 (codes "010000000e") ∷ End ∷ [])
-    (to_link 1 (codes "03000000047400") ∷
+    (takes_in primary_first ∷ routes 1 ∷ to_link 1 (codes "03000000047400") ∷
     to_client 1 (codes "18000001036465660000000161000c2d000a000000fd0000000000fb") ∷
     to_client 1 (codes "05000002fe00000200") ∷ to_client 1 (codes "0700000100000002000000") ∷ [])
 unfolding lenenc lenenc_bytes full_packet spelling number_behind payload_behind first_payload eof_at err_at err_code err_bytes bytes_at number_at fixed_at lenenc_at text_at text_bytes ended state_at texts_at ok_at ok_status texts_bytes ok_bytes prepare_ok_at eof_status prepared_counts column_count is_definition is_row progress role client_ok client_form class_of same_word
 field_list = does_in 16 refl refl
 
 loss_cuts_a_result : Does
-    (Begin 1 0 ∷ from_client 1 (codes "020000000378") ∷
+    (Observed primary_first ∷ Begin 1 0 ∷ from_client 1 (codes "020000000378") ∷
     on_link 1 (codes "010000010117000002036465660000000161000c2d000a000000fd0000000000") ∷ LinkGone 1 ∷
     from_client 1 (codes "010000000e") ∷ End ∷ [])
-    (to_link 1 (codes "020000000378") ∷ to_client 1 (codes "0100000101") ∷
-    to_client 1 (codes "17000002036465660000000161000c2d000a000000fd0000000000") ∷ Close 1 ResultCut ∷ [])
+    (takes_in primary_first ∷ routes 1 ∷ to_link 1 (codes "020000000378") ∷ to_client 1 (codes "0100000101") ∷
+    to_client 1 (codes "17000002036465660000000161000c2d000a000000fd0000000000") ∷ closes 1 ResultCut ∷ [])
 unfolding lenenc lenenc_bytes full_packet spelling number_behind payload_behind first_payload eof_at err_at err_code err_bytes bytes_at number_at fixed_at lenenc_at text_at text_bytes ended state_at texts_at ok_at ok_status texts_bytes ok_bytes prepare_ok_at eof_status prepared_counts column_count is_definition is_row progress role client_ok client_form class_of same_word
 loss_cuts_a_result = does_in 16 refl refl
 
 -- a packet under a wrong number
 fault_cuts_a_result : Does
-    (Begin 4 0 ∷ from_client 4 (codes "020000000378") ∷
+    (Observed primary_first ∷ Begin 4 0 ∷ from_client 4 (codes "020000000378") ∷
     on_link 1 (codes "010000010117000002036465660000000161000c2d000a000000fd000000000005000003fe0000020002000005013505000006fe00000200") ∷
     End ∷ [])
-    (to_link 1 (codes "020000000378") ∷ to_client 4 (codes "0100000101") ∷
+    (takes_in primary_first ∷ routes 4 ∷ to_link 1 (codes "020000000378") ∷ to_client 4 (codes "0100000101") ∷
     to_client 4 (codes "17000002036465660000000161000c2d000a000000fd0000000000") ∷
-    to_client 4 (codes "05000003fe00000200") ∷ Drop 1 BadWire ∷ Close 4 ResultCut ∷ [])
+    to_client 4 (codes "05000003fe00000200") ∷ drops 1 BadWire ∷ closes 4 ResultCut ∷ [])
 unfolding lenenc lenenc_bytes full_packet spelling number_behind payload_behind first_payload eof_at err_at err_code err_bytes bytes_at number_at fixed_at lenenc_at text_at text_bytes ended state_at texts_at ok_at ok_status texts_bytes ok_bytes prepare_ok_at eof_status prepared_counts column_count is_definition is_row progress role client_ok client_form class_of same_word
 fault_cuts_a_result = does_in 16 refl refl
 
 bad_wire : Does
-    (Begin 1 0 ∷ from_client 1 (codes "020000000378") ∷ on_link 1 (codes "0700000200000002000000") ∷ End ∷ [])
-    (to_link 1 (codes "020000000378") ∷ Drop 1 BadWire ∷ Close 1 OutcomeUnknown ∷ [])
+    (Observed primary_first ∷ Begin 1 0 ∷ from_client 1 (codes "020000000378") ∷ on_link 1 (codes "0700000200000002000000") ∷ End ∷ [])
+    (takes_in primary_first ∷ routes 1 ∷ to_link 1 (codes "020000000378") ∷ drops 1 BadWire ∷ closes 1 OutcomeUnknown ∷ [])
 unfolding lenenc lenenc_bytes full_packet spelling number_behind payload_behind first_payload eof_at err_at err_code err_bytes bytes_at number_at fixed_at lenenc_at text_at text_bytes ended state_at texts_at ok_at ok_status texts_bytes ok_bytes prepare_ok_at eof_status prepared_counts column_count is_definition is_row progress role client_ok client_form class_of same_word
 bad_wire = does_in 16 refl refl
 
 byte_behind_a_reply : Does
-    (Begin 1 0 ∷ from_client 1 (codes "020000000378020000000378") ∷ on_link 1 (codes "070000010000000200000000") ∷
+    (Observed primary_first ∷ Begin 1 0 ∷ from_client 1 (codes "020000000378020000000378") ∷ on_link 1 (codes "070000010000000200000000") ∷
     End ∷ [])
-    (to_link 1 (codes "020000000378") ∷ to_client 1 (codes "0700000100000002000000") ∷ Drop 1 Unasked ∷
-    Close 1 SessionState ∷ [])
+    (takes_in primary_first ∷ routes 1 ∷ to_link 1 (codes "020000000378") ∷ to_client 1 (codes "0700000100000002000000") ∷ drops 1 Unasked ∷
+    closes 1 SessionState ∷ [])
 unfolding lenenc lenenc_bytes full_packet spelling number_behind payload_behind first_payload eof_at err_at err_code err_bytes bytes_at number_at fixed_at lenenc_at text_at text_bytes ended state_at texts_at ok_at ok_status texts_bytes ok_bytes prepare_ok_at eof_status prepared_counts column_count is_definition is_row progress role client_ok client_form class_of same_word
 byte_behind_a_reply = does_in 16 refl refl
 
--- three sessions in turn, on the links 1, 2 and 3
+-- three sessions in turn, on the links 1, 2 and 3: one that is kept isn't routed again, and one that sent nothing outlasts the loss of its
+-- link
 three_sessions : Does
-    (Begin 5 0 ∷ Begin 7 1 ∷ Begin 9 2 ∷ from_client 7 (codes "02000000") ∷ from_client 9 (codes "020000000378") ∷
+    (Observed primary_first ∷ Begin 5 0 ∷ Begin 7 0 ∷ Begin 9 0 ∷ from_client 7 (codes "02000000") ∷ from_client 9 (codes "020000000378") ∷
     from_client 7 (codes "0379") ∷ on_link 3 (codes "07000001") ∷ from_client 5 (codes "010000000e") ∷
     on_link 2 (codes "0700000100000003000000") ∷ on_link 3 (codes "00000002000000") ∷ LinkGone 2 ∷
     from_client 9 (codes "020000000378") ∷ from_client 7 (codes "010000000e") ∷ on_link 1 (codes "00") ∷
     ClientGone 9 ∷ End ∷ [])
-    (to_link 3 (codes "020000000378") ∷ to_link 2 (codes "020000000379") ∷
+    (takes_in primary_first ∷ routes 9 ∷ to_link 3 (codes "020000000378") ∷ routes 7 ∷ to_link 2 (codes "020000000379") ∷
     to_client 5 (codes "0700000100000002000000") ∷ to_client 7 (codes "0700000100000003000000") ∷
-    to_client 9 (codes "0700000100000002000000") ∷ Close 7 SessionState ∷ to_link 3 (codes "020000000378") ∷
-    Drop 1 Unasked ∷ Close 5 SessionState ∷ Drop 3 AtEnd ∷ [])
+    to_client 9 (codes "0700000100000002000000") ∷ closes 7 SessionState ∷ to_link 3 (codes "020000000378") ∷
+    drops 1 Unasked ∷ drops 3 AtEnd ∷ [])
 unfolding lenenc lenenc_bytes full_packet spelling number_behind payload_behind first_payload eof_at err_at err_code err_bytes bytes_at number_at fixed_at lenenc_at text_at text_bytes ended state_at texts_at ok_at ok_status texts_bytes ok_bytes prepare_ok_at eof_status prepared_counts column_count is_definition is_row progress role client_ok client_form class_of same_word
 three_sessions = does_in 16 refl refl
 
 -- a fault on one session's link is none of the other session's business
 one_link_breaks : Does
-    (Begin 1 0 ∷ Begin 2 0 ∷ from_client 1 (codes "020000000378") ∷ from_client 2 (codes "020000000378") ∷
+    (Observed primary_first ∷ Begin 1 0 ∷ Begin 2 0 ∷ from_client 1 (codes "020000000378") ∷ from_client 2 (codes "020000000378") ∷
     on_link 1 (codes "01000002") ∷ on_link 2 (codes "0700000100000002000000") ∷ End ∷ [])
-    (to_link 1 (codes "020000000378") ∷ to_link 2 (codes "020000000378") ∷ Drop 1 BadWire ∷
-    Close 1 OutcomeUnknown ∷ to_client 2 (codes "0700000100000002000000") ∷ [])
+    (takes_in primary_first ∷ routes 1 ∷ to_link 1 (codes "020000000378") ∷ routes 2 ∷ to_link 2 (codes "020000000378") ∷ drops 1 BadWire ∷
+    closes 1 OutcomeUnknown ∷ to_client 2 (codes "0700000100000002000000") ∷ [])
 unfolding lenenc lenenc_bytes full_packet spelling number_behind payload_behind first_payload eof_at err_at err_code err_bytes bytes_at number_at fixed_at lenenc_at text_at text_bytes ended state_at texts_at ok_at ok_status texts_bytes ok_bytes prepare_ok_at eof_status prepared_counts column_count is_definition is_row progress role client_ok client_form class_of same_word
 one_link_breaks = does_in 16 refl refl
 
 -- a client that is gone is told nothing more, and closes nothing
 client_gone : Does
-    (Begin 1 0 ∷ from_client 1 (codes "020000000378") ∷ ClientGone 1 ∷
+    (Observed primary_first ∷ Begin 1 0 ∷ from_client 1 (codes "020000000378") ∷ ClientGone 1 ∷
     on_link 1 (codes "0700000100000002000000") ∷ from_client 1 (codes "010000000e") ∷ ClientGone 1 ∷ End ∷ [])
-    (to_link 1 (codes "020000000378") ∷ Drop 1 AtEnd ∷ [])
+    (takes_in primary_first ∷ routes 1 ∷ to_link 1 (codes "020000000378") ∷ drops 1 AtEnd ∷ [])
 unfolding lenenc lenenc_bytes full_packet spelling number_behind payload_behind first_payload eof_at err_at err_code err_bytes bytes_at number_at fixed_at lenenc_at text_at text_bytes ended state_at texts_at ok_at ok_status texts_bytes ok_bytes prepare_ok_at eof_status prepared_counts column_count is_definition is_row progress role client_ok client_form class_of same_word
 client_gone = does_in 16 refl refl
 
@@ -425,15 +449,15 @@ client_gone = does_in 16 refl refl
 session_over : Does
     (Begin 1 0 ∷ from_client 1 (codes "0100000001010000000e") ∷ from_client 1 (codes "010000000e") ∷
     on_link 1 (codes "00") ∷ LinkGone 1 ∷ ClientGone 1 ∷ Begin 1 0 ∷ from_client 1 (codes "010000000e") ∷ End ∷ [])
-    (Close 1 Quit ∷ Drop 1 AtEnd ∷ [])
+    (closes 1 Quit ∷ drops 1 AtEnd ∷ [])
 unfolding lenenc lenenc_bytes full_packet spelling number_behind payload_behind first_payload eof_at err_at err_code err_bytes bytes_at number_at fixed_at lenenc_at text_at text_bytes ended state_at texts_at ok_at ok_status texts_bytes ok_bytes prepare_ok_at eof_status prepared_counts column_count is_definition is_row progress role client_ok client_form class_of same_word
 session_over = does_in 16 refl refl
 
 -- a server that the settings don't have: no session begins and no link is opened, but the number is gone
 no_such_server : Does
-    (Begin 5 3 ∷ from_client 5 (codes "010000000e") ∷ Begin 4 0 ∷ from_client 4 (codes "010000000e") ∷ Begin 5 0 ∷
-    from_client 5 (codes "010000000e") ∷ Begin 6 2 ∷ from_client 6 (codes "020000000378") ∷ End ∷ [])
-    (to_link 1 (codes "020000000378") ∷ [])
+    (Observed primary_first ∷ Begin 5 3 ∷ from_client 5 (codes "010000000e") ∷ Begin 4 0 ∷ from_client 4 (codes "010000000e") ∷ Begin 5 0 ∷
+    from_client 5 (codes "010000000e") ∷ Begin 6 0 ∷ from_client 6 (codes "020000000378") ∷ End ∷ [])
+    (takes_in primary_first ∷ routes 6 ∷ to_link 1 (codes "020000000378") ∷ [])
 unfolding lenenc lenenc_bytes full_packet spelling number_behind payload_behind first_payload eof_at err_at err_code err_bytes bytes_at number_at fixed_at lenenc_at text_at text_bytes ended state_at texts_at ok_at ok_status texts_bytes ok_bytes prepare_ok_at eof_status prepared_counts column_count is_definition is_row progress role client_ok client_form class_of same_word
 no_such_server = does_in 16 refl refl
 
@@ -458,7 +482,7 @@ none_pending = refl
 want_for_a_command : Does
     (Begin 1 0 ∷ Begin 2 1 ∷ from_client 1 (codes "020000000378") ∷ from_client 1 (codes "010000000e") ∷
     from_client 2 (codes "010000000e") ∷ on_link 1 (codes "0700000100000002000000") ∷ End ∷ [])
-    (to_client 1 (codes "16000001ff0d042348593030316f7574206f66206d656d6f7279") ∷ Close 1 Memory ∷ Drop 1 AtEnd ∷
+    (to_client 1 (codes "16000001ff0d042348593030316f7574206f66206d656d6f7279") ∷ closes 1 Memory ∷ drops 1 AtEnd ∷
     to_client 2 (codes "0700000100000002000000") ∷ [])
 unfolding lenenc lenenc_bytes full_packet spelling number_behind payload_behind first_payload eof_at err_at err_code err_bytes bytes_at number_at fixed_at lenenc_at text_at text_bytes ended state_at texts_at ok_at ok_status texts_bytes ok_bytes prepare_ok_at eof_status prepared_counts column_count is_definition is_row progress role client_ok client_form class_of same_word
 want_for_a_command =
@@ -469,39 +493,39 @@ want_for_a_command =
 -- for what the session heard
 want_for_bytes : Does
     (Begin 1 0 ∷ from_client 1 (codes "02") ∷ End ∷ [])
-    (to_client 1 (codes "16000001ff0d042348593030316f7574206f66206d656d6f7279") ∷ Close 1 Memory ∷ Drop 1 AtEnd ∷ [])
+    (to_client 1 (codes "16000001ff0d042348593030316f7574206f66206d656d6f7279") ∷ closes 1 Memory ∷ drops 1 AtEnd ∷ [])
 unfolding lenenc lenenc_bytes full_packet spelling number_behind payload_behind first_payload eof_at err_at err_code err_bytes bytes_at number_at fixed_at lenenc_at text_at text_bytes ended state_at texts_at ok_at ok_status texts_bytes ok_bytes prepare_ok_at eof_status prepared_counts column_count is_definition is_row progress role client_ok client_form class_of same_word
 want_for_bytes = wants_in 1 1 true (Begin 1 0 ∷ []) (from_client 1 (codes "02")) (End ∷ []) _ refl refl refl tt refl refl
 
 -- behind a payload of a reply: what was told stands
 want_in_a_reply : Does
-    (Begin 1 0 ∷ from_client 1 (codes "020000000378") ∷
+    (Observed primary_first ∷ Begin 1 0 ∷ from_client 1 (codes "020000000378") ∷
     on_link 1 (codes "010000010117000002036465660000000161000c2d000a000000fd0000000000") ∷ End ∷ [])
-    (to_link 1 (codes "020000000378") ∷ to_client 1 (codes "0100000101") ∷
-    to_client 1 (codes "16000001ff0d042348593030316f7574206f66206d656d6f7279") ∷ Close 1 Memory ∷ Drop 1 AtEnd ∷ [])
+    (takes_in primary_first ∷ routes 1 ∷ to_link 1 (codes "020000000378") ∷ to_client 1 (codes "0100000101") ∷
+    to_client 1 (codes "16000001ff0d042348593030316f7574206f66206d656d6f7279") ∷ closes 1 Memory ∷ drops 1 AtEnd ∷ [])
 unfolding lenenc lenenc_bytes full_packet spelling number_behind payload_behind first_payload eof_at err_at err_code err_bytes bytes_at number_at fixed_at lenenc_at text_at text_bytes ended state_at texts_at ok_at ok_status texts_bytes ok_bytes prepare_ok_at eof_status prepared_counts column_count is_definition is_row progress role client_form class_of same_word
 want_in_a_reply =
-    wants_in 3 1 true (Begin 1 0 ∷ from_client 1 (codes "020000000378") ∷ [])
+    wants_in 3 1 true (Observed primary_first ∷ Begin 1 0 ∷ from_client 1 (codes "020000000378") ∷ [])
     (on_link 1 (codes "010000010117000002036465660000000161000c2d000a000000fd0000000000")) (End ∷ []) _ refl refl refl tt refl refl
 
 -- its link is lost: what is owed for that is owed no more, and no link is left
 want_at_a_loss : Does
     (Begin 1 0 ∷ LinkGone 1 ∷ End ∷ [])
-    (to_client 1 (codes "16000001ff0d042348593030316f7574206f66206d656d6f7279") ∷ Close 1 Memory ∷ [])
+    (to_client 1 (codes "16000001ff0d042348593030316f7574206f66206d656d6f7279") ∷ closes 1 Memory ∷ [])
 unfolding lenenc lenenc_bytes full_packet spelling number_behind payload_behind first_payload eof_at err_at err_code err_bytes bytes_at number_at fixed_at lenenc_at text_at text_bytes ended state_at texts_at ok_at ok_status texts_bytes ok_bytes prepare_ok_at eof_status prepared_counts column_count is_definition is_row progress role client_ok client_form class_of same_word
 want_at_a_loss = wants_in 1 1 true (Begin 1 0 ∷ []) (LinkGone 1) (End ∷ []) _ refl refl refl tt refl refl
 
 -- a session that was closed already gives up its link
 want_behind_a_close : Does
     (Begin 1 0 ∷ from_client 1 (codes "0100000001") ∷ End ∷ [])
-    (Close 1 Quit ∷ Drop 1 AtEnd ∷ [])
+    (closes 1 Quit ∷ drops 1 AtEnd ∷ [])
 unfolding lenenc lenenc_bytes full_packet spelling number_behind payload_behind first_payload eof_at err_at err_code err_bytes bytes_at number_at fixed_at lenenc_at text_at text_bytes ended state_at texts_at ok_at ok_status texts_bytes ok_bytes prepare_ok_at eof_status prepared_counts column_count is_definition is_row progress role client_ok client_form class_of same_word
 want_behind_a_close = wants_in 3 1 true (Begin 1 0 ∷ []) (from_client 1 (codes "0100000001")) (End ∷ []) _ refl refl refl tt refl refl
 
 -- for the session itself: its client is told nothing
 want_for_a_session : Does
     (Begin 1 0 ∷ Begin 2 0 ∷ from_client 1 (codes "010000000e") ∷ from_client 2 (codes "010000000e") ∷ End ∷ [])
-    (Close 1 Memory ∷ Drop 1 AtEnd ∷ to_client 2 (codes "0700000100000002000000") ∷ [])
+    (closes 1 Memory ∷ drops 1 AtEnd ∷ to_client 2 (codes "0700000100000002000000") ∷ [])
 unfolding lenenc lenenc_bytes full_packet spelling number_behind payload_behind first_payload eof_at err_at err_code err_bytes bytes_at number_at fixed_at lenenc_at text_at text_bytes ended state_at texts_at ok_at ok_status texts_bytes ok_bytes prepare_ok_at eof_status prepared_counts column_count is_definition is_row progress role client_ok client_form class_of same_word
 want_for_a_session =
     wants_in 1 1 false [] (Begin 1 0) (Begin 2 0 ∷ from_client 1 (codes "010000000e") ∷ from_client 2 (codes "010000000e") ∷ End ∷ [])
@@ -516,17 +540,17 @@ primary_and_replica fourth = record {
 }
 
 -- each is taken in where it comes, and what sessions do stays as it is
-rounds_are_taken_in : DoesAll
+rounds_are_taken_in : Does
     (Begin 1 0 ∷ Observed (primary_and_replica None) ∷ Clock 5000 ∷ from_client 1 (codes "010000000e") ∷
     Observed (primary_and_replica None) ∷ End ∷ [])
-    (Told (Observe (primary_and_replica None)) ∷ Took (to_client 1 (codes "0700000100000002000000")) ∷
-    Told (Observe (primary_and_replica None)) ∷ [])
+    (takes_in (primary_and_replica None) ∷ to_client 1 (codes "0700000100000002000000") ∷
+    takes_in (primary_and_replica None) ∷ [])
 unfolding lenenc lenenc_bytes full_packet spelling number_behind payload_behind first_payload eof_at err_at err_code err_bytes bytes_at number_at fixed_at lenenc_at text_at text_bytes ended state_at texts_at ok_at ok_status texts_bytes ok_bytes prepare_ok_at eof_status prepared_counts column_count is_definition is_row progress role client_ok client_form class_of same_word
 rounds_are_taken_in = does_in 16 refl refl
 
 -- one that names a fourth server isn't, whatever it says of it
-a_round_with_a_further_server : DoesAll
+a_round_with_a_further_server : Does
     (Observed (primary_and_replica (Some (record { state = Down; position = 0 }))) ∷ Observed (primary_and_replica None) ∷ End ∷ [])
-    (Told (Observe (primary_and_replica None)) ∷ [])
+    (takes_in (primary_and_replica None) ∷ [])
 unfolding payload_behind first_payload
 a_round_with_a_further_server = does_in 16 refl refl

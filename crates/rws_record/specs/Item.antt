@@ -7,6 +7,9 @@ use Rattle.rws_reply.specs.declared.kind.Outcome.{Outcome}
 use Rattle.rws_native.specs.declared.login.Login.{Login}
 use Rattle.rws_front.specs.declared.step.FrontStep.{FrontStep}
 use Rattle.rws_link.specs.declared.step.LinkStep.{LinkStep}
+use Rattle.rws_pool.specs.declared.words.PoolWords.{PoolWords}
+use Rattle.rws_select.specs.declared.selector.Load.{Load}
+use Rattle.rws_route.specs.declared.destination.Target.{Target}
 use Rattle.rws_record.specs.declared.command.Command.{Command}
 use Rattle.rws_record.specs.declared.proxy_error.ProxyError.{ProxyError}
 
@@ -16,12 +19,22 @@ pub data Purpose : Type 0 where
   Prepares : Purpose
   -- the client asked for it
   Asks : Command → Purpose
+  -- it set the session on another link before: an entry of the session's history
+  Plays : Command → Purpose
+
+-- what the end of a reply means for the session's history
+pub data Recording : Type 0 where
+  Nothing : Recording
+  -- its command is added
+  Accepts : Recording
+  -- there is no room for it, so the session is kept on the link
+  Keeps : Recording
 
 -- what the client is told
 pub data Tell : Type 0 where
   -- a payload of the reply that this link gives to the command, in the client's form; the last one with how the server's
-  -- reply ended
-  Passes : (link : ℕ) → Command → (payload : List ℕ) → Option Outcome → Tell
+  -- reply ended and what that means for the history
+  Passes : (link : ℕ) → Command → (payload : List ℕ) → Option Outcome → Recording → Tell
   -- the proxy's own OK
   Owns : (status : ℕ) → Tell
   -- the proxy's own error
@@ -33,8 +46,8 @@ pub data Put : Type 0 where
   Hands : (packets : List ℕ) → Put
   -- to the client, in packets from this number on
   Tells : (number : ℕ) → Tell → Put
-  -- the worker is asked where the pending command is to go; a link for it logs in so
-  Routes : Login → Put
+  -- the worker is asked for the words of the pool and its loads, by which the pending command's target is found
+  Routes : Put
   -- a link to this server is opened, on which the client's login is repeated
   Opens : (link server : ℕ) → Login → Put
   -- to a server, packets of the login as the link has made them
@@ -55,18 +68,22 @@ pub data Judged : Type 0 where
 
 pub data Item : Type 0 where
   -- from outside: a client connects, and is to be greeted with this scramble; it is turned away, since there are as many
-  -- sessions as may be, and is told so or not; a session begins in the command phase, with a link that is ready
-  Accepted : (session : ℕ) → (scramble : List ℕ) → Item
+  -- sessions as may be, and is told so or not; a session begins in the command phase, with a link that is ready. `reading` is what
+  -- the clock showed last, in milliseconds
+  Accepted : (session : ℕ) → (scramble : List ℕ) → (reading : ℕ) → Item
   TurnsAway : (told : Bool) → Item
-  Began : (link server : ℕ) → Item
+  Began : (link server reading : ℕ) → Item
   -- bytes come; a link that is opening counts as ready; the client or a link is gone
   ClientBytes : List ℕ → Item
   LinkReady : (link : ℕ) → Item
   LinkBytes : (link : ℕ) → List ℕ → Item
   ClientGone : Item
   LinkLost : (link : ℕ) → Item
-  -- the worker's answer: the pending command is to go to this server, on the link of this number if it is a new one
-  Routed : (link server : ℕ) → Item
+  -- the clock shows this
+  Ticks : (reading : ℕ) → Item
+  -- the worker's answer: the words, the loads of its links by server, and the number that the next link has; and where the
+  -- pending command goes by these
+  Routed : PoolWords → List Load → (next : ℕ) → Target → Item
   -- what came of a link: packets of its login are to be sent, it is logged in, a payload of the reply that it owes, as the
   -- server sent it, or that it is lost
   Comes : (link : ℕ) → LinkStep → Item

@@ -2,11 +2,11 @@
 use Rattle.std.specs.Prelude.{ℕ, Bool, true, false, List, Option, Some, None, if◌then◌else◌}
 use Rattle.rws_class.specs.declared.class.Class.{Class}
 use Rattle.rws_class.specs.declared.class.Class.TheVariants.{Refused}
-use Rattle.rws_reply.specs.declared.kind.Kind.TheVariants.{Query as QueryReply, FieldList as FieldListReply}
+use Rattle.rws_reply.specs.declared.kind.Kind.TheVariants.{Simple, Query as QueryReply, FieldList as FieldListReply}
 use Rattle.rws_record.specs.declared.proxy_error.ProxyError.{ProxyError}
 use Rattle.rws_record.specs.declared.proxy_error.ProxyError.TheVariants.{UnknownCommand, NotSupported, UnknownStatement, BadExecute, TooManyStatements, NotInReadOnly}
 use Rattle.rws_record.specs.declared.request.Request.{Request}
-use Rattle.rws_record.specs.declared.request.Request.TheVariants.{Quit, Ping, Query, FieldList, Unsupported, Unknown}
+use Rattle.rws_record.specs.declared.request.Request.TheVariants.{Quit, Ping, Query, FieldList, InitDb, Unsupported, Unknown}
 use Rattle.rws_record.specs.Requests.{class_by, request_of}
 use Rattle.rws_record.specs.Item.{Judged}
 use Rattle.rws_record.specs.Item.Judged.{Leaves, Pings, IsRefused, Serves}
@@ -73,6 +73,7 @@ accepted_as Quit payload number = Leaves
 accepted_as Ping payload number = Pings
 accepted_as Query payload number = Serves (record { payload = payload; kind = QueryReply; number = number })
 accepted_as FieldList payload number = Serves (record { payload = payload; kind = FieldListReply; number = number })
+accepted_as InitDb payload number = Serves (record { payload = payload; kind = Simple; number = number })
 accepted_as Unsupported payload number = IsRefused NotSupported
 accepted_as Unknown payload number = IsRefused UnknownCommand
 

@@ -1,10 +1,14 @@
 -- What the client and the servers see of what a session gives out.
-use Rattle.std.specs.Prelude.{ℕ, List, [], ◌∷◌, ◌++◌, false}
+use Rattle.std.specs.Prelude.{ℕ, List, [], ◌∷◌, ◌++◌, map, false}
 use Rattle.rws_wire.specs.Packets.{spelling}
 use Rattle.rws_msgs.specs.ErrLayout.{err_bytes}
 use Rattle.rws_msgs.specs.OkLayout.{ok_bytes}
 use Rattle.rws_board.specs.declared.action.Action.{Action}
 use Rattle.rws_board.specs.declared.action.Action.TheVariants as actions
+use Rattle.rws_board.specs.declared.interaction.Interaction.{Interaction}
+use Rattle.rws_board.specs.declared.interaction.Interaction.TheVariants.{Took, Told}
+use Rattle.rws_pool.specs.declared.events.PoolCall.{PoolCall}
+use Rattle.rws_pool.specs.declared.events.PoolCall.TheVariants as calls
 use Rattle.rws_record.specs.Errors.{error_of}
 use Rattle.rws_record.specs.Item.{Item, Tell, Put}
 use Rattle.rws_record.specs.Item.Item.{Puts}
@@ -18,14 +22,14 @@ own_ok status = ok_bytes false (record { affected = 0; insert_id = 0; status = s
 
 -- the payload that tells it
 abbrev pub payload_of : Tell → List ℕ
-payload_of (Passes link command payload outcome) = payload
+payload_of (Passes link command payload outcome recording) = payload
 payload_of (Owns status) = own_ok status
 payload_of (Refuses error) = err_bytes (error_of error)
 
 -- what is done outside for it, in a session of this number and from the record below it
 abbrev pub outs_for : ℕ → Put → List Item → List Action
 outs_for session (Hands packets) past = actions.ToClient session packets ∷ []
-outs_for session (Routes login) past = []
+outs_for session Routes past = []
 outs_for session (Opens link server login) past = actions.Open link server session ∷ []
 outs_for session (LogsInto link packets) past = actions.ToLink link packets ∷ []
 outs_for session (Tells number tell) past = actions.ToClient session (spelling number (payload_of tell)) ∷ []
@@ -37,6 +41,15 @@ outs_for session (Closes reason) past = actions.Close session reason ∷ []
 abbrev pub outs_of : ℕ → Item → List Item → List Action
 outs_of session (Puts put) past = outs_for session put past
 outs_of session _ past = []
+
+-- the words of the pool are asked for
+abbrev pub calls_of : ℕ → Item → List PoolCall
+calls_of session (Puts Routes) = calls.Route session ∷ []
+calls_of session _ = []
+
+-- both: at most one of them is there
+abbrev pub done_for : ℕ → Item → List Item → List Interaction
+done_for session item past = map Took (outs_of session item past) ++ map Told (calls_of session item)
 
 -- all that was done outside for a session, oldest first
 abbrev pub actions_of : ℕ → List Item → List Action

@@ -1,12 +1,12 @@
 -- Which command a payload is, by its first byte ("Text protocol", "Utility commands" and "Binary protocol (prepared
 -- statements)" of MariaDB's documentation).
 use Rattle.std.specs.Prelude.{ℕ, List, [], ◌∷◌, ◌==◌, if◌then◌else◌}
-use Rattle.rws_msgs.specs.declared.command.TheConstants.{COM_QUIT, COM_QUERY, COM_FIELD_LIST, COM_PING, COM_SET_OPTION, COM_STMT_FETCH, COM_RESET_CONNECTION}
+use Rattle.rws_msgs.specs.declared.command.TheConstants.{COM_QUIT, COM_INIT_DB, COM_QUERY, COM_FIELD_LIST, COM_PING, COM_SET_OPTION, COM_STMT_FETCH, COM_RESET_CONNECTION}
 use Rattle.rws_class.specs.Classes.{class_of}
 use Rattle.rws_class.specs.declared.class.Class.{Class}
-use Rattle.rws_class.specs.declared.class.Class.TheVariants.{PrimaryRead, Other}
+use Rattle.rws_class.specs.declared.class.Class.TheVariants.{PrimaryRead, Session, Other}
 use Rattle.rws_record.specs.declared.request.Request.{Request}
-use Rattle.rws_record.specs.declared.request.Request.TheVariants.{Quit, Ping, Query, FieldList, Unsupported, Unknown}
+use Rattle.rws_record.specs.declared.request.Request.TheVariants.{Quit, Ping, Query, FieldList, InitDb, Unsupported, Unknown}
 
 abbrev pub request_by : ℕ → Request
 request_by code =
@@ -17,7 +17,8 @@ request_by code =
     else (if code == COM_SET_OPTION then Unsupported
     else (if code == COM_STMT_FETCH then Unsupported
     else (if code == COM_RESET_CONNECTION then Unsupported
-    else Unknown))))))
+    else (if code == COM_INIT_DB then InitDb
+    else Unknown)))))))
 
 -- a payload without any byte is no command
 abbrev pub request_of : List ℕ → Request
@@ -34,4 +35,5 @@ arguments_of (code ∷ arguments) = arguments
 abbrev pub class_by : Request → List ℕ → Class
 class_by Query payload = class_of (arguments_of payload)
 class_by FieldList payload = PrimaryRead
+class_by InitDb payload = Session
 class_by _ payload = Other

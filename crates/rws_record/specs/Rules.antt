@@ -2,13 +2,14 @@
 -- goes on by `next` until it rests, and then by what comes from outside.
 --
 -- Rules come in two levels: a function of plain values, and one line that fills in the values of a record.
-use Rattle.std.specs.Prelude.{ℕ, ◌+◌, nat_lt, Bool, true, false, not, ◌&&◌, ◌==◌, List, [], ◌∷◌, ◌++◌, length, map, drop, Option, Some, None, if◌then◌else◌}
+use Rattle.std.specs.Prelude.{ℕ, ◌+◌, nat_lt, Bool, true, false, not, ◌&&◌, ◌==◌, List, [], ◌∷◌, ◌++◌, length, map, drop, Option, Some, None, is_some, slice_get, if◌then◌else◌}
 use Rattle.std.specs.Option.{option_map}
 use Rattle.rws_wire.specs.declared.close_reason.CloseReason.TheVariants as reasons
 use Rattle.rws_wire.specs.declared.drop_cause.DropCause.{DropCause}
 use Rattle.rws_wire.specs.declared.drop_cause.DropCause.TheVariants as causes
 use Rattle.rws_wire.specs.declared.drop_cause.DropCause.TheVariants.{Unasked, End, Kept, Replay}
 use Rattle.rws_native.specs.declared.login.Login.{Login}
+use Rattle.rws_reply.specs.declared.kind.Outcome.{Outcome}
 use Rattle.rws_reply.specs.declared.kind.Outcome.TheVariants.{Done, Failed}
 use Rattle.rws_reply.specs.declared.kind.Progress.{Progress}
 use Rattle.rws_reply.specs.declared.kind.Progress.TheVariants.{More, Whole as Ends}
@@ -22,18 +23,27 @@ use Rattle.rws_link.specs.declared.step.LinkCause.TheVariants as losses
 use Rattle.rws_link.specs.declared.step.LinkStep.{LinkStep}
 use Rattle.rws_link.specs.declared.step.LinkStep.TheVariants as steps
 use Rattle.rws_link.specs.Stepping.{LinkState, LogsIn, Rests, Awaits, IsLost, step}
+use Rattle.rws_class.specs.declared.class.Class.{Class}
+use Rattle.rws_class.specs.declared.class.Class.TheVariants.{Write, Ddl, Other}
+use Rattle.rws_pool.specs.declared.words.PoolWords.{PoolWords}
+use Rattle.rws_select.specs.declared.selector.Load.{Load}
+use Rattle.rws_route.specs.declared.destination.Target.{Target}
+use Rattle.rws_route.specs.declared.destination.Target.TheVariants.{Primary, Replica, NoPrimary as Nowhere}
+use Rattle.rws_route.specs.Targets.{target_of}
+use Rattle.rws_routing.specs.Routings.{finds_late, server_in}
 use Rattle.rws_config.specs.declared.config.Config.{Config}
 use Rattle.rws_config.specs.declared.limits.TheConstants.{FLOOD_ROOM}
 use Rattle.rws_record.specs.declared.command.Command.{Command}
-use Rattle.rws_record.specs.declared.proxy_error.ProxyError.TheVariants.{TooManyConnections, CommandTooLarge, OutOfMemory}
-use Rattle.rws_record.specs.Item.{Item, Purpose, Judged, Put}
-use Rattle.rws_record.specs.Item.Item.{Accepted, TurnsAway, Began, ClientBytes, LinkReady, LinkBytes, ClientGone, LinkLost, Routed, Comes, Connects, Takes, Floods, Puts, Starves}
+use Rattle.rws_record.specs.declared.proxy_error.ProxyError.TheVariants.{TooManyConnections, CommandTooLarge, NoPrimary, OutOfMemory}
+use Rattle.rws_record.specs.Item.{Item, Purpose, Judged, Put, Recording}
+use Rattle.rws_record.specs.Item.Item.{Accepted, TurnsAway, Began, ClientBytes, LinkReady, LinkBytes, ClientGone, LinkLost, Ticks, Routed, Comes, Connects, Takes, Floods, Puts, Starves}
 use Rattle.rws_record.specs.Item.Judged.{Leaves, Pings, IsRefused, Serves}
 use Rattle.rws_record.specs.Item.Put.{Hands, Tells, Routes, Opens, LogsInto, Sends, Drops, Closes}
 use Rattle.rws_record.specs.Item.Tell.{Passes, Owns, Refuses}
-use Rattle.rws_record.specs.Item.Purpose.{Prepares, Asks}
+use Rattle.rws_record.specs.Item.Purpose.{Prepares, Asks, Plays}
+use Rattle.rws_record.specs.Item.Recording.{Nothing, Accepts, Keeps}
 use Rattle.rws_record.specs.Judging.{judged}
-use Rattle.rws_record.specs.Values.{fronted, held, login_of, links, contains, kept_on, linked, is_up, asked_on, prepared_handle, pending, sent_on, told_from, reply_number, asking, is_over}
+use Rattle.rws_record.specs.Values.{accepted, autocommit, banned, class_by_pending, cursor, is_session, class_of_command, fronted, goes_on, held, keeps, login_of, links, link_to, contains, without, kept_on, linked, is_up, asked_on, now, prepared_handle, pending, routing, sent_on, told_from, reply_number, asking, is_over}
 
 abbrev pub is_link : ℕ → Option ℕ → Bool
 is_link link (Some other) = other == link
@@ -71,38 +81,35 @@ loss_by told sent again kept opened replayable assigned =
     else (if assigned then SendsElsewhere
     else IsForgotten)))))
 
--- Classes of commands and transactions aren't looked at yet: each command counts as one whose effect isn't known, and no
--- transaction as open.
-abbrev pub sends_again : Bool
-sends_again = false
-
+-- No transaction is open: they aren't looked at yet.
 abbrev pub has_transaction : Bool
 has_transaction = false
 
 abbrev pub is_replayable : Bool
 is_replayable = false
 
--- the link on which the pending command was sent, or is to be sent
-abbrev pub assigned_by : Option Command → (sent kept : Option ℕ) → Option ℕ
-assigned_by None sent kept = None
-assigned_by (Some command) None kept = kept
-assigned_by (Some command) (Some link) kept = Some link
+-- What may be sent again after the loss of its link, outside of a transaction: not what may have changed something for good.
+abbrev pub sends_again : Class → (autocommit : Bool) → Bool
+sends_again Other autocommit = false
+sends_again Ddl autocommit = false
+sends_again Write autocommit = not autocommit
+sends_again class autocommit = true
 
--- Commands aren't routed yet, so nothing sends one elsewhere that waits for its link: it counts as sent.
-abbrev pub counts_as_sent : Bool
-counts_as_sent = true
+abbrev pub again_by : Option Command → (autocommit : Bool) → Bool
+again_by (Some command) autocommit = sends_again (class_of_command command) autocommit
+again_by None autocommit = true
 
-abbrev pub is_out_on : ℕ → (sent assigned : Option ℕ) → Bool
-is_out_on link sent assigned = if counts_as_sent then is_link link assigned else is_link link sent
+abbrev pub goes_if : Option Command → Option ℕ → Option ℕ
+goes_if (Some command) link = link
+goes_if None link = None
 
-abbrev pub loss_of : ℕ → List Item → Loss
-loss_of link past =
-    let assigned = assigned_by (pending past) (sent_on past) (kept_on past) in
-    loss_by (is_link link (told_from past)) (is_out_on link (sent_on past) assigned) sends_again (is_link link (kept_on past))
-    has_transaction is_replayable (is_link link assigned)
+abbrev pub loss_of : Config → ℕ → List Item → Loss
+loss_of config link past =
+    loss_by (is_link link (told_from past)) (is_link link (sent_on past)) (again_by (pending past) (autocommit config past))
+    (is_link link (kept_on past)) has_transaction is_replayable (is_link link (goes_if (pending past) (goes_on config past)))
 
--- Replays and other routes aren't built yet, and nothing leads to them: no transaction counts as open, and a session is
--- kept on the link that it sends on.
+-- Replays aren't built yet, and nothing leads to them: no transaction counts as open. A command that goes elsewhere is routed
+-- anew, which is due.
 abbrev pub after_loss_by : Loss → List Put
 after_loss_by CutsReply = Closes reasons.ResultCut ∷ []
 after_loss_by HidesOutcome = Closes reasons.OutcomeUnknown ∷ []
@@ -112,8 +119,8 @@ after_loss_by StartsReplay = []
 after_loss_by SendsElsewhere = []
 after_loss_by IsForgotten = []
 
-abbrev pub after_loss : ℕ → List Item → List Put
-after_loss link past = after_loss_by (loss_of link past)
+abbrev pub after_loss : Config → ℕ → List Item → List Put
+after_loss config link past = after_loss_by (loss_of config link past)
 
 -- to give a link up is to lose it, but for those that aren't needed any more
 abbrev pub is_loss : DropCause → Bool
@@ -128,15 +135,16 @@ is_loss _ = true
 abbrev pub farewells : List Item → List Put
 farewells past = map (λ link. Drops link End) (links past)
 
--- autocommit is on, and no transaction is open
-abbrev pub own_status : ℕ
-own_status = 0x0002
+-- the status of the proxy's own OK: whether autocommit is on; no transaction is open
+abbrev pub own_status : (autocommit : Bool) → ℕ
+own_status true = 0x0002
+own_status false = 0
 
-abbrev pub after_command : Judged → ℕ → List Put
-after_command Leaves number = Closes reasons.Quit ∷ []
-after_command Pings number = Tells number (Owns own_status) ∷ []
-after_command (IsRefused error) number = Tells number (Refuses error) ∷ []
-after_command (Serves command) number = []
+abbrev pub after_command : Judged → ℕ → (status : ℕ) → List Put
+after_command Leaves number status = Closes reasons.Quit ∷ []
+after_command Pings number status = Tells number (Owns status) ∷ []
+after_command (IsRefused error) number status = Tells number (Refuses error) ∷ []
+after_command (Serves command) number status = []
 
 -- What came of the client but for its commands: where its packets can't be read on, or it isn't let in, the session is closed.
 abbrev pub after_connecting : FrontStep → List Put
@@ -151,10 +159,30 @@ abbrev pub after_turning_away : (told : Bool) → List Put
 after_turning_away true = Tells 0 (Refuses TooManyConnections) ∷ Closes reasons.Connections ∷ []
 after_turning_away false = Closes reasons.Connections ∷ []
 
--- a link is opened for the session that asked
-abbrev pub after_route : (link server : ℕ) → Option Login → List Put
-after_route link server (Some login) = Opens link server login ∷ []
-after_route link server None = []
+-- a link is opened where the session has none to the server
+abbrev pub opening : (link : Option ℕ) → (next server : ℕ) → Option Login → List Put
+opening None next server (Some login) = Opens next server login ∷ []
+opening link next server login = []
+
+-- a command that waited long enough for a primary is answered so
+abbrev pub refusing : Bool → (number : ℕ) → List Put
+refusing true number = Tells number (Refuses NoPrimary) ∷ []
+refusing false number = []
+
+-- the pending command's target is found, or there is none for it
+abbrev pub after_route : Target → (link : Option ℕ) → (next : ℕ) → Option Login → (late : Bool) → (number : ℕ) → List Put
+after_route Nowhere link next login late number = refusing late number
+after_route (Primary server) link next login late number = opening link next server login
+after_route (Replica server) link next login late number = opening link next server login
+
+-- no causal wait sent the command back: they aren't built yet
+abbrev pub is_sent_back : Bool
+is_sent_back = false
+
+-- where the pending command is to go, by these words and loads
+abbrev pub found_in : Config → List Item → PoolWords → List Load → Target
+found_in config past words loads =
+    target_of (class_by_pending (pending past)) (autocommit config past) is_sent_back words loads (routing config past).tried (banned past)
 
 -- The client sent on too far behind a command that isn't answered. It is told in a packet of number 1.
 abbrev pub after_flood : ℕ → List Put
@@ -166,10 +194,27 @@ unasked link false = []
 
 -- A payload of the reply to the client's command goes to the client in its form; behind the last one a further byte costs
 -- the link.
-abbrev pub after_answer : ℕ → Command → (form : List ℕ) → Progress → (behind : Bool) → (number : ℕ) → List Put
-after_answer link command form More behind number = Tells number (Passes link command form None) ∷ []
-after_answer link command form (Ends outcome) behind number =
-    Tells number (Passes link command form (Some outcome)) ∷ unasked link behind
+abbrev pub after_answer : ℕ → Command → (form : List ℕ) → Progress → (behind : Bool) → (number : ℕ) → (Outcome → Recording) → List Put
+after_answer link command form More behind number recording = Tells number (Passes link command form None Nothing) ∷ []
+after_answer link command form (Ends outcome) behind number recording =
+    Tells number (Passes link command form (Some outcome) (recording outcome)) ∷ unasked link behind
+
+-- A command that sets the session, without an error, is added to the history; where that is full, the session is kept.
+abbrev pub recording_by : (sets kept full : Bool) → Outcome → Recording
+recording_by true false false (Done status) = Accepts
+recording_by true false true (Done status) = Keeps
+recording_by _ _ _ _ = Nothing
+
+abbrev pub recording_of : Config → List Item → Outcome → Recording
+recording_of config past outcome =
+    recording_by (is_session (class_by_pending (pending past))) (is_some (kept_on past))
+    (not (nat_lt (length (accepted past)) config.history_limit)) outcome
+
+-- an entry of the history was played, or its server answers it otherwise
+abbrev pub after_played : ℕ → Progress → (behind : Bool) → List Put
+after_played link More behind = []
+after_played link (Ends (Done status)) behind = unasked link behind
+after_played link (Ends (Failed code)) behind = Drops link causes.SessionDiffers ∷ []
 
 -- the form in which the client gets a payload of this role
 abbrev pub form_of : Role → List ℕ → List ℕ
@@ -181,10 +226,12 @@ after_preparing link More behind = []
 after_preparing link (Ends (Done status)) behind = unasked link behind
 after_preparing link (Ends (Failed code)) behind = Drops link (causes.Login code) ∷ []
 
-abbrev pub after_part : ℕ → Option Purpose → (form : List ℕ) → Progress → (behind : Bool) → (number : ℕ) → List Put
-after_part link (Some (Asks command)) form progress behind number = after_answer link command form progress behind number
-after_part link (Some Prepares) form progress behind number = after_preparing link progress behind
-after_part link None form progress behind number = []
+abbrev pub after_part : Config → ℕ → Option Purpose → (form : List ℕ) → Progress → (behind : Bool) → (number : ℕ) → List Item → List Put
+after_part config link (Some (Asks command)) form progress behind number past =
+    after_answer link command form progress behind number (λ outcome. recording_of config past outcome)
+after_part config link (Some (Plays command)) form progress behind number past = after_played link progress behind
+after_part config link (Some Prepares) form progress behind number past = after_preparing link progress behind
+after_part config link None form progress behind number past = []
 
 -- why a link that is lost is given up
 abbrev pub drop_cause : LinkCause → DropCause
@@ -196,13 +243,13 @@ drop_cause losses.Plugin = causes.Plugin
 drop_cause (losses.Login code) = causes.Login code
 
 -- what came of a link
-abbrev pub after_coming : ℕ → LinkStep → Option Purpose → (number : ℕ) → List Put
-after_coming link (steps.Part payload role progress next behind) purpose number =
-    after_part link purpose (form_of role payload) progress behind number
-after_coming link (steps.Lost cause) purpose number = Drops link (drop_cause cause) ∷ []
-after_coming link (steps.Send packets) purpose number = LogsInto link packets ∷ []
-after_coming link steps.LoggedIn purpose number = []
-after_coming link steps.Idle purpose number = []
+abbrev pub after_coming : Config → ℕ → LinkStep → Option Purpose → (number : ℕ) → List Item → List Put
+after_coming config link (steps.Part payload role progress next behind) purpose number past =
+    after_part config link purpose (form_of role payload) progress behind number past
+after_coming config link (steps.Lost cause) purpose number past = Drops link (drop_cause cause) ∷ []
+after_coming config link (steps.Send packets) purpose number past = LogsInto link packets ∷ []
+after_coming config link steps.LoggedIn purpose number past = []
+after_coming config link steps.Idle purpose number past = []
 
 -- Where memory is wanting the session is closed, and its client told before, in a packet of this number, if the session was
 -- made. One that is over gives up the links that it has left.
@@ -212,33 +259,45 @@ after_want false true number farewells = Tells number (Refuses OutOfMemory) ∷ 
 after_want false false number farewells = Closes reasons.Memory ∷ []
 
 -- the answer to what came, was taken up or was wanting, from the record before it
-abbrev pub response : Item → List Item → List Put
-response (Accepted session scramble) past = []
-response (TurnsAway told) past = after_turning_away told
-response (Began link server) past = []
-response (ClientBytes bytes) past = []
-response (LinkReady link) past = []
-response (LinkBytes link bytes) past = []
-response ClientGone past = farewells past
-response (LinkLost link) past = after_loss link past
-response (Comes link said) past = after_coming link said (asked_on link past) (reply_number past)
-response (Routed link server) past = after_route link server (asking past)
-response (Connects said) past = after_connecting said
-response (Takes judged number) past = after_command judged number
-response (Floods held) past = after_flood held
-response (Starves made number) past = after_want (is_over past) made number (farewells past)
-response (Puts put) past = []
+abbrev pub response : Config → Item → List Item → List Put
+response config (Accepted session scramble reading) past = []
+response config (TurnsAway told) past = after_turning_away told
+response config (Began link server reading) past = []
+response config (ClientBytes bytes) past = []
+response config (LinkReady link) past = []
+response config (LinkBytes link bytes) past = []
+response config ClientGone past = farewells past
+response config (LinkLost link) past = after_loss config link past
+response config (Ticks reading) past = []
+response config (Routed words loads next found) past =
+    after_route found (link_to (server_in found) past) next (login_of config past)
+    (finds_late config.primary_wait_ms (now past) (routing config past)) (reply_number past)
+response config (Comes link said) past = after_coming config link said (asked_on link past) (reply_number past) past
+response config (Connects said) past = after_connecting said
+response config (Takes judged number) past = after_command judged number (own_status (autocommit config past))
+response config (Floods held) past = after_flood held
+response config (Starves made number) past = after_want (is_over past) made number (farewells past)
+response config (Puts put) past = []
+
+-- a command by which anything may be changed keeps the session on its link, and the others are given up
+abbrev pub after_keeping : (keeping : Bool) → ℕ → (kept : Option ℕ) → List ℕ → List Put
+after_keeping true link None links = map (λ other. Drops other Kept) (without link links)
+after_keeping true link (Some kept) links = []
+after_keeping false link kept links = []
 
 -- what follows directly on something that was given out
-abbrev pub follow : Put → List Item → List Put
-follow (Drops link cause) past = if is_loss cause then after_loss link past else []
-follow _ past = []
+abbrev pub follow : Config → Put → List Item → List Put
+follow config (Drops link cause) past = if is_loss cause then after_loss config link past else []
+follow config (Sends link (Asks command)) past =
+    after_keeping (keeps (class_of_command command)) link (kept_on past) (links past)
+follow config (Tells number (Passes link command payload (Some outcome) Keeps)) past = after_keeping true link (kept_on past) (links past)
+follow config _ past = []
 
-abbrev pub owed : List Item → List Put
-owed [] = []
-owed (Puts (Closes reason) ∷ past) = farewells past
-owed (Puts put ∷ past) = follow put past ++ drop 1 (owed past)
-owed (item ∷ past) = response item past
+abbrev pub owed : Config → List Item → List Put
+owed config [] = []
+owed config (Puts (Closes reason) ∷ past) = farewells past
+owed config (Puts put ∷ past) = follow config put past ++ drop 1 (owed config past)
+owed config (item ∷ past) = response config item past
 
 -- What is due where nothing is owed
 
@@ -257,31 +316,44 @@ abbrev pub is_free : (prepared : Bool) → ℕ → List Item → Bool
 is_free prepared link past =
     contains link (links past) && (is_same prepared (is_up link past) && is_ready (linked link past))
 
--- where a command is pending and no link is there, the worker is asked for one, on which the client's login is repeated
-abbrev pub route_by : Option Command → (kept : Option ℕ) → Option Login → Option Item
-route_by (Some command) None (Some login) = Some (Puts (Routes login))
+-- where a command is pending and it isn't known where it goes, the worker is asked, unless the command waits for a primary
+abbrev pub route_by : Option Command → (goes : Option ℕ) → (waits : Bool) → Option Item
+route_by (Some command) None false = Some (Puts Routes)
 route_by _ _ _ = None
 
-abbrev pub due_route : List Item → Option Item
-due_route past = route_by (pending past) (kept_on past) (login_of past)
+abbrev pub due_route : Config → List Item → Option Item
+due_route config past = route_by (pending past) (goes_on config past) (routing config past).waits
 
--- the link is prepared as soon as it is logged in
-abbrev pub prepare_by : (kept : Option ℕ) → (ℕ → Bool) → Option Item
-prepare_by (Some link) is_free = if is_free link then Some (Puts (Sends link Prepares)) else None
-prepare_by None is_free = None
+infixr 20 ◌or◌
+abbrev pub ◌or◌ : {A : Type 0} → Option A → Option A → Option A
+(Some item) or other = Some item
+None or other = other
 
-abbrev pub due_prepare : List Item → Option Item
-due_prepare past = prepare_by (kept_on past) (λ link. is_free false link past)
+-- a link is prepared as soon as it is logged in
+abbrev pub prepare_by : (free : Bool) → ℕ → Option Item
+prepare_by true link = Some (Puts (Sends link Prepares))
+prepare_by false link = None
 
--- the pending command goes on the link that the session is kept on as soon as that is prepared and free, where it wasn't sent
--- yet
-abbrev pub send_by : Option Command → (sent kept : Option ℕ) → (ℕ → Bool) → Option Item
-send_by (Some command) None (Some link) is_free =
-    if is_free link then Some (Puts (Sends link (Asks command))) else None
-send_by _ _ _ is_free = None
+-- the next entry of the history, on a link that has some to play
+abbrev pub play_by : (free : Bool) → ℕ → Option Command → Option Item
+play_by true link (Some command) = Some (Puts (Sends link (Plays command)))
+play_by _ link _ = None
 
-abbrev pub due_send : List Item → Option Item
-due_send past = send_by (pending past) (sent_on past) (kept_on past) (λ link. is_free true link past)
+-- the pending command goes on its link as soon as that is prepared and free, where it wasn't sent yet
+abbrev pub ask_by : (free : Bool) → ℕ → (goes : Bool) → Option Command → (sent : Option ℕ) → Option Item
+ask_by true link true (Some command) None = Some (Puts (Sends link (Asks command)))
+ask_by _ link _ _ _ = None
+
+abbrev pub due_on : Config → ℕ → List Item → Option Item
+due_on config link past =
+    prepare_by (is_free false link past) link
+    or (play_by (is_free true link past) link (slice_get (accepted past) (cursor link past))
+    or ask_by (is_free true link past) link (is_link link (goes_on config past)) (pending past) (sent_on past))
+
+-- in order of number
+abbrev pub due_sends : Config → List ℕ → List Item → Option Item
+due_sends config [] past = None
+due_sends config (link ∷ others) past = due_on config link past or due_sends config others past
 
 -- how many bytes a client may have sent that aren't taken up, while a command of its is pending
 abbrev pub flood_limit : Config → ℕ
@@ -303,11 +375,6 @@ coming link (steps.Send bytes) = Some (Comes link (steps.Send bytes))
 coming link steps.LoggedIn = Some (Comes link steps.LoggedIn)
 coming link (steps.Part payload role progress next behind) = Some (Comes link (steps.Part payload role progress next behind))
 coming link (steps.Lost cause) = Some (Comes link (steps.Lost cause))
-
-infixr 20 ◌or◌
-abbrev pub ◌or◌ : {A : Type 0} → Option A → Option A → Option A
-(Some item) or other = Some item
-None or other = other
 
 abbrev pub due_arrival : List ℕ → List Item → Option Item
 due_arrival [] past = None
@@ -333,17 +400,17 @@ due_take config past = take_by (pending past) (step_of config.accounts (fronted 
 -- give the same.
 abbrev pub due : Config → List Item → Option Item
 due config past =
-    due_route past or (due_prepare past or (due_send past or (due_flood config past or (due_arrival (links past) past or due_take config past))))
+    due_route config past or (due_sends config (links past) past or (due_flood config past or (due_arrival (links past) past or due_take config past)))
 
 abbrev pub next_by : List Put → Bool → Option Item → Option Item
 next_by (put ∷ others) over due = Some (Puts put)
 next_by [] true due = None
 next_by [] false due = due
 
-abbrev pub unless_asking : Option Login → Option Item → Option Item
-unless_asking (Some login) item = None
-unless_asking None item = item
+abbrev pub unless_asking : (asking : Bool) → Option Item → Option Item
+unless_asking true item = None
+unless_asking false item = item
 
 -- the session's next step; None where it rests, or waits for the worker's answer
 abbrev pub next : Config → List Item → Option Item
-next config past = unless_asking (asking past) (next_by (owed past) (is_over past) (due config past))
+next config past = unless_asking (asking past) (next_by (owed config past) (is_over past) (due config past))

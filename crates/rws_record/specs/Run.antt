@@ -1,25 +1,28 @@
 -- The run of a worker: the events that it was given, what they told its sessions, what its sessions did, and which
 -- rounds of the monitor it took into the words of the pool, in one list, newest first.
-use Rattle.std.specs.Prelude.{◌≡◌, ℕ, ◌+◌, max, Bool, true, false, not, List, [], ◌∷◌, ◌++◌, length, drop, filter, map, nat_lt, ◌==◌, ◌&&◌, Option, Some, None, if◌then◌else◌}
+use Rattle.std.specs.Prelude.{◌≡◌, ℕ, ◌+◌, max, min, Bool, true, false, not, List, [], ◌∷◌, ◌++◌, length, drop, filter, map, nat_lt, ◌==◌, ◌&&◌, Option, Some, None, is_some, if◌then◌else◌}
 use Rattle.std.specs.Option.{option_map}
+use Rattle.std.specs.List.{range_with_len}
 use Rattle.rws_board.specs.declared.event.Event.{Event}
 use Rattle.rws_board.specs.declared.event.Event.TheVariants as events
 use Rattle.rws_board.specs.declared.interaction.Interaction.{Interaction}
-use Rattle.rws_board.specs.declared.interaction.Interaction.TheVariants.{Took, Told}
+use Rattle.rws_board.specs.declared.interaction.Interaction.TheVariants.{Told}
 use Rattle.rws_pool.specs.declared.events.PoolCall.TheVariants as calls
 use Rattle.rws_pool.specs.declared.events.PoolEvent.{PoolEvent}
 use Rattle.rws_pool.specs.declared.events.PoolEvent.TheVariants.{Observe}
 use Rattle.rws_pool.specs.declared.words.Round.{Round}
 use Rattle.rws_pool.specs.declared.words.Seen.{Seen}
+use Rattle.rws_pool.specs.declared.words.PoolWords.{PoolWords}
+use Rattle.rws_pool.specs.Machine.{new_words, pool_from}
+use Rattle.rws_select.specs.declared.selector.Load.{Load}
 use Rattle.rws_config.specs.declared.config.Config.{Config}
 use Rattle.rws_record.specs.Item.{Item}
-use Rattle.rws_record.specs.Item.Item.{Accepted, TurnsAway, Began, ClientBytes, LinkReady, LinkBytes, ClientGone, LinkLost, Routed, Starves}
-use Rattle.rws_native.specs.declared.login.Login.{Login}
+use Rattle.rws_record.specs.Item.Item.{Accepted, TurnsAway, Began, ClientBytes, LinkReady, LinkBytes, ClientGone, LinkLost, Ticks, Routed, Starves}
 use Rattle.rws_link.specs.Stepping.{LinkState, is_new}
-use Rattle.rws_record.specs.Values.{opens, links, linked, asking, is_over, is_starved, contains}
-use Rattle.rws_record.specs.Rules.{next, ◌or◌}
+use Rattle.rws_record.specs.Values.{opens, links, linked, exchange, server_of, asking, is_over, is_starved, contains}
+use Rattle.rws_record.specs.Rules.{found_in, next, ◌or◌}
 use Rattle.rws_record.specs.Record.{CanBeMade, want_number}
-use Rattle.rws_record.specs.Outputs.{outs_of}
+use Rattle.rws_record.specs.Outputs.{done_for}
 
 pub data Entry : Type 0 where
   -- an event came
@@ -60,9 +63,9 @@ greatest (_ ∷ run) = greatest run
 
 -- the session that an entry begins, if it does; one that is turned away begins too, and is over as soon as it rests
 abbrev pub begins_session : ℕ → Item → List ℕ
-begins_session session (Accepted number scramble) = session ∷ []
+begins_session session (Accepted number scramble reading) = session ∷ []
 begins_session session (TurnsAway told) = session ∷ []
-begins_session session (Began link server) = session ∷ []
+begins_session session (Began link server reading) = session ∷ []
 begins_session session _ = []
 
 -- the sessions that ever began, in order of number
@@ -74,6 +77,17 @@ begun (_ ∷ run) = begun run
 -- the sessions that are open
 abbrev pub open_sessions : List Entry → List ℕ
 open_sessions run = filter (λ session. is_live (record_of session run)) (begun run)
+
+-- the reading of an event of the clock
+abbrev pub reading_by : Event → ℕ → ℕ
+reading_by (events.Clock now) before = now
+reading_by _ before = before
+
+-- the clock's last reading
+abbrev pub last_clock : List Entry → ℕ
+last_clock [] = 0
+last_clock (Came event ∷ run) = reading_by event (last_clock run)
+last_clock (_ ∷ run) = last_clock run
 
 -- the session and the number of the link that an entry opens
 abbrev pub opens_for : Entry → Option (ℕ × ℕ)
@@ -130,17 +144,17 @@ beginning false item told = TurnsAway told
 -- beginning; whatever names a session or a link that isn't open tells nobody anything.
 abbrev pub told_by : Config → Event → List Entry → List (ℕ × Item)
 told_by config (events.Accept session scramble) run =
-    if_so (nat_lt (greatest run) session) (session, beginning (has_room config run) (Accepted session scramble) true)
+    if_so (nat_lt (greatest run) session) (session, beginning (has_room config run) (Accepted session scramble (last_clock run)) true)
 told_by config (events.Begin session server) run =
     if_so (nat_lt (greatest run) session && nat_lt server (length config.servers))
-    (session, beginning (has_room config run) (Began (last_link run + 1) server) false)
+    (session, beginning (has_room config run) (Began (last_link run + 1) server (last_clock run)) false)
 told_by config (events.ClientBytes session bytes) run = told_to session (ClientBytes bytes) run
 told_by config (events.ClientGone session) run = told_to session ClientGone run
 told_by config (events.LinkReady link) run = told_on link (LinkReady link) (λ state. is_new state) (owner link run) run
 told_by config (events.LinkBytes link bytes) run = told_on link (LinkBytes link bytes) (λ state. true) (owner link run) run
 told_by config (events.LinkGone link) run = told_on link (LinkLost link) (λ state. true) (owner link run) run
--- no session hears of the clock or of the monitor yet: commands aren't routed
-told_by config (events.Clock now) run = []
+-- what the clock shows is told to each session, in order of number
+told_by config (events.Clock now) run = map (λ session. (session, Ticks now)) (open_sessions run)
 told_by config (events.Observed round) run = []
 told_by config events.End run = []
 
@@ -184,24 +198,66 @@ hearer (Heard session item ∷ run) = Some session
 hearer (Did session item ∷ run) = hearer run
 hearer (Observes round ∷ run) = hearer run
 
+-- The words of the pool, and the worker's loads
+
+-- the steps that the words took in a run, oldest first
+abbrev pub pool_events_of : List Entry → List PoolEvent
+pool_events_of [] = []
+pool_events_of (Observes round ∷ run) = pool_events_of run ++ Observe round ∷ []
+pool_events_of (_ ∷ run) = pool_events_of run
+
+abbrev pub words_of : Config → List Entry → PoolWords
+words_of config run = pool_from (new_words config.gtid_domain) (pool_events_of run)
+
+abbrev pub is_owed_on : ℕ → List Item → Bool
+is_owed_on link past = is_some (exchange link past)
+
+-- how many links a session has to a server, and on how many of them something awaits its reply
+abbrev pub links_to : (server : ℕ) → List Item → List ℕ
+links_to server past = filter (λ link. server_of link past == server) (links past)
+
+abbrev pub pending_to : (server : ℕ) → List Item → List ℕ
+pending_to server past = filter (λ link. is_owed_on link past) (links_to server past)
+
+abbrev pub sum : List ℕ → ℕ
+sum [] = 0
+sum (number ∷ numbers) = number + sum numbers
+
+-- the greatest count that a load has; with as many sessions as settings allow none comes near
+abbrev pub capped : ℕ → ℕ
+capped number = min number 65535
+
+-- what the worker has open to a server
+abbrev pub load_of : List Entry → (server : ℕ) → Load
+load_of run server = record {
+  pending = capped (sum (map (λ session. length (pending_to server (record_of session run))) (open_sessions run)));
+  links = capped (sum (map (λ session. length (links_to server (record_of session run))) (open_sessions run)));
+}
+
+abbrev pub loads_of : List Entry → List Load
+loads_of run = map (λ server. load_of run server) (range_with_len 0 7)
+
 -- The run
 
 abbrev pub step_of : Config → Option ℕ → List Entry → Option Entry
 step_of config None run = None
 step_of config (Some session) run = option_map (λ item. Did session item) (next config (record_of session run))
 
--- the server to which each link is opened, as long as commands aren't routed
-abbrev pub only_server : ℕ
-only_server = 0
+-- the worker's answer to a session that asks
+abbrev pub answer_for : Config → ℕ → List Entry → Item
+answer_for config session run =
+    let words = words_of config run in
+    let loads = loads_of run in
+    Routed words loads (last_link run + 1) (found_in config (record_of session run) words loads)
 
-abbrev pub answering : Option Login → ℕ → (last : ℕ) → Option Entry
-answering (Some login) session last = Some (Did session (Routed (last + 1) only_server))
-answering None session last = None
+abbrev pub answering : Config → (asks : Bool) → ℕ → List Entry → Option Entry
+answering config true session run = Some (Did session (answer_for config session run))
+answering config false session run = None
 
--- the worker answers the session that asks it, by the number of the next link
-abbrev pub answer_of : Option ℕ → List Entry → Option Entry
-answer_of None run = None
-answer_of (Some session) run = answering (asking (record_of session run)) session (last_link run)
+-- the worker answers the session that asks it
+abbrev pub answer_of : Config → Option ℕ → List Entry → Option Entry
+answer_of config None run = None
+answer_of config (Some session) run = answering config (asking (record_of session run)) session run
 
 abbrev pub hearing : List (ℕ × Item) → Option Entry
 hearing [] = None
@@ -214,7 +270,7 @@ observing round = option_map (λ r. Observes r) round
 -- the next one hears what it is told, and at last the words take the round in. None where the run rests.
 abbrev pub next_entry : Config → List Entry → Option Entry
 next_entry config run =
-    step_of config (hearer run) run or (answer_of (hearer run) run or (hearing (untold config run) or observing (unobserved config run)))
+    step_of config (hearer run) run or (answer_of config (hearer run) run or (hearing (untold config run) or observing (unobserved config run)))
 
 -- Each event comes when the run rests, and each other entry is the next one; but to the session that heard of the last
 -- event memory may be wanting, once.
@@ -250,15 +306,9 @@ events_of (_ ∷ run) = events_of run
 -- what is done outside in a run, oldest first
 abbrev pub done_in : List Entry → List Interaction
 done_in [] = []
-done_in (Did session item ∷ run) = done_in run ++ map Took (outs_of session item (record_of session run))
+done_in (Did session item ∷ run) = done_in run ++ done_for session item (record_of session run)
 done_in (Observes round ∷ run) = done_in run ++ Told (calls.Observe round) ∷ []
 done_in (_ ∷ run) = done_in run
-
--- the steps that the words of the pool took in a run, oldest first
-abbrev pub pool_events_of : List Entry → List PoolEvent
-pool_events_of [] = []
-pool_events_of (Observes round ∷ run) = pool_events_of run ++ Observe round ∷ []
-pool_events_of (_ ∷ run) = pool_events_of run
 
 -- a run over these events that rests
 pub record IsRunOver (config : Config) (events : List Event) (run : List Entry) : Type 0 where

@@ -1,12 +1,17 @@
 -- What a record says. Each value is read from the items alone, newest first, and is a function of its own; a value of a
 -- link takes the link's number.
-use Rattle.std.specs.Prelude.{ℕ, Bool, true, false, not, List, [], ◌∷◌, ◌++◌, filter, ◌==◌, Option, Some, None, codes, if◌then◌else◌}
+use Rattle.std.specs.Prelude.{ℕ, ◌+◌, Bool, true, false, not, ◌&&◌, ◌||◌, List, [], ◌∷◌, ◌++◌, filter, ◌==◌, Option, Some, None, codes, is_none, if◌then◌else◌}
 use Rattle.rws_wire.specs.Packets.{number_behind}
 use Rattle.rws_msgs.specs.declared.command.TheConstants.{COM_QUERY}
 use Rattle.rws_native.specs.declared.login.Login.{Login}
+use Rattle.rws_class.specs.declared.class.Class.{Class}
+use Rattle.rws_class.specs.declared.class.Class.TheVariants.{Read, PrimaryRead, Write, Ddl, Session, AutocommitOn, Refused, Other}
+use Rattle.rws_trx.specs.Transactions.{shows_autocommit}
+use Rattle.rws_routing.specs.declared.routing.Routing.{Routing}
+use Rattle.rws_routing.specs.Routings.{goes_to_primary, is_at, lost, new_routing, routed, server_in, stopped, ticked, with_server}
 use Rattle.rws_reply.specs.declared.kind.Kind.{Kind}
 use Rattle.rws_reply.specs.declared.kind.Kind.TheVariants.{Query as QueryReply}
-use Rattle.rws_reply.specs.declared.kind.Outcome.TheVariants.{Done}
+use Rattle.rws_reply.specs.declared.kind.Outcome.TheVariants.{Done, Failed}
 use Rattle.rws_reply.specs.declared.kind.Progress.TheVariants.{Whole as Ends}
 use Rattle.rws_front.specs.declared.phase.Phase.TheVariants.{Greets as IsToGreet, Commands}
 use Rattle.rws_front.specs.declared.step.FrontStep.{FrontStep}
@@ -16,14 +21,18 @@ use Rattle.rws_front.specs.Connection.{step_of}
 use Rattle.rws_link.specs.declared.step.LinkStep.{LinkStep}
 use Rattle.rws_link.specs.declared.step.LinkStep.TheVariants as steps
 use Rattle.rws_link.specs.Stepping.{LinkState, LogsIn, Rests, Awaits, IsLost, Exchange, fed, opened as opening, readied, sent, step}
+use Rattle.rws_config.specs.declared.account.Account.{Account}
 use Rattle.rws_config.specs.declared.config.Config.{Config}
 use Rattle.rws_record.specs.declared.command.Command.{Command}
+use Rattle.rws_record.specs.declared.proxy_error.ProxyError.TheVariants.{NoPrimary}
+use Rattle.rws_record.specs.Requests.{class_by, request_of}
 use Rattle.rws_record.specs.Item.{Item, Purpose, Put}
-use Rattle.rws_record.specs.Item.Item.{Accepted, Began, ClientBytes, LinkReady, LinkBytes, ClientGone, LinkLost, Routed, Comes, Connects, Takes, Puts, Starves}
+use Rattle.rws_record.specs.Item.Item.{Accepted, Began, ClientBytes, LinkReady, LinkBytes, ClientGone, LinkLost, Ticks, Routed, Comes, Connects, Takes, Puts, Starves}
 use Rattle.rws_record.specs.Item.Judged.{Serves}
 use Rattle.rws_record.specs.Item.Put.{Tells, Routes, Opens, Sends, Drops, Closes}
-use Rattle.rws_record.specs.Item.Tell.{Passes}
-use Rattle.rws_record.specs.Item.Purpose.{Prepares, Asks}
+use Rattle.rws_record.specs.Item.Tell.{Passes, Refuses}
+use Rattle.rws_record.specs.Item.Purpose.{Prepares, Asks, Plays}
+use Rattle.rws_record.specs.Item.Recording.{Accepts, Keeps}
 
 -- The client's side
 
@@ -45,8 +54,8 @@ begun_front config = record (new_front config 0 no_scramble) { phase = Commands 
 -- Where the client stands: how far its login has come, and its bytes that aren't taken up yet.
 abbrev pub fronted : Config → List Item → Fronting
 fronted config [] = begun_front config
-fronted config (Accepted session scramble ∷ past) = new_front config session scramble
-fronted config (Began link server ∷ past) = begun_front config
+fronted config (Accepted session scramble reading ∷ past) = new_front config session scramble
+fronted config (Began link server reading ∷ past) = begun_front config
 fronted config (ClientBytes bytes ∷ past) = front_fed (fronted config past) bytes
 fronted config (Connects said ∷ past) = (step_of config.accounts (fronted config past)).1
 fronted config (Takes judged number ∷ past) = (step_of config.accounts (fronted config past)).1
@@ -60,11 +69,18 @@ abbrev pub login_by : FrontStep → Option Login → Option Login
 login_by (fronts.LoggedIn login) before = Some login
 login_by _ before = before
 
+-- the login of a session that begins with the commands: that of the settings' first account, without a password
+abbrev pub first_login : List Account → Option Login
+first_login [] = None
+first_login (account ∷ others) =
+    Some (record { user = account.user; stage1 = None; database = None; charset = 45; flags = 0 })
+
 -- the login of the client, which its links repeat
-abbrev pub login_of : List Item → Option Login
-login_of [] = None
-login_of (Connects said ∷ past) = login_by said (login_of past)
-login_of (_ ∷ past) = login_of past
+abbrev pub login_of : Config → List Item → Option Login
+login_of config [] = None
+login_of config (Began link server reading ∷ past) = first_login config.accounts
+login_of config (Connects said ∷ past) = login_by said (login_of config past)
+login_of config (_ ∷ past) = login_of config past
 
 -- The links that the session has
 
@@ -74,7 +90,7 @@ opened_by (Opens link server login) = Some (link, server)
 opened_by _ = None
 
 abbrev pub opens : Item → Option (ℕ × ℕ)
-opens (Began link server) = Some (link, server)
+opens (Began link server reading) = Some (link, server)
 opens (Puts put) = opened_by put
 opens _ = None
 
@@ -107,14 +123,14 @@ abbrev pub server_of : ℕ → List Item → ℕ
 server_of link [] = 0
 server_of link (item ∷ past) = server_by link (opens item) (server_of link past)
 
-abbrev pub kept_by : Option (ℕ × ℕ) → Option ℕ → Option ℕ
-kept_by (Some opened) before = Some opened.0
-kept_by None before = before
+-- the first link of these to a server
+abbrev pub first_to : (server : ℕ) → List ℕ → List Item → Option ℕ
+first_to server [] past = None
+first_to server (link ∷ others) past = if server_of link past == server then Some link else first_to server others past
 
--- The link that the session is kept on. Commands aren't routed yet, so a session opens one link, and is kept on it.
-abbrev pub kept_on : List Item → Option ℕ
-kept_on [] = None
-kept_on (item ∷ past) = kept_by (opens item) (kept_on past)
+-- the link that the session has to a server
+abbrev pub link_to : (server : ℕ) → List Item → Option ℕ
+link_to server past = first_to server (links past) past
 
 -- What a link is
 
@@ -128,17 +144,19 @@ preamble =
 abbrev pub sent_for : Purpose → List ℕ
 sent_for Prepares = preamble
 sent_for (Asks command) = command.payload
+sent_for (Plays command) = command.payload
 
 -- the kind of reply that answers it
 abbrev pub kind_of : Purpose → Kind
 kind_of Prepares = QueryReply
 kind_of (Asks command) = command.kind
+kind_of (Plays command) = command.kind
 
 -- A link: what it waits for, with the bytes that came and aren't read. That of a session's beginning is ready, and any counts as
 -- such before it was opened. When the session loses the link it isn't cleared: it then says what was awaited there.
 abbrev pub linked : ℕ → List Item → LinkState
 linked link [] = Rests
-linked link (Began opened server ∷ past) = if opened == link then Rests else linked link past
+linked link (Began opened server reading ∷ past) = if opened == link then Rests else linked link past
 linked link (LinkBytes from bytes ∷ past) = if from == link then fed bytes (linked link past) else linked link past
 linked link (Comes from said ∷ past) = if from == link then (step (linked link past)).after else linked link past
 linked link (LinkReady ready ∷ past) = if ready == link then readied (linked link past) else linked link past
@@ -161,7 +179,7 @@ prepared_by _ _ before = before
 -- commands of the client may go on the link: it was prepared, or counts as it
 abbrev pub is_up : ℕ → List Item → Bool
 is_up link [] = false
-is_up link (Began opened server ∷ past) = if opened == link then true else is_up link past
+is_up link (Began opened server reading ∷ past) = if opened == link then true else is_up link past
 is_up link (Puts (Opens opened server login) ∷ past) = if opened == link then false else is_up link past
 is_up link (LinkReady ready ∷ past) = if ready == link then true else is_up link past
 is_up link (Comes from said ∷ past) =
@@ -199,50 +217,177 @@ link_held link past = unread (linked link past)
 abbrev pub pending : List Item → Option Command
 pending [] = None
 pending (Takes (Serves command) number ∷ past) = Some command
-pending (Puts (Tells number (Passes link command payload (Some outcome))) ∷ past) = None
+pending (Puts (Tells number (Passes link command payload (Some outcome) recording)) ∷ past) = None
+pending (Puts (Tells number (Refuses NoPrimary)) ∷ past) = None
 pending (_ ∷ past) = pending past
 
--- the link on which the pending command was sent last
+abbrev pub unless_link : ℕ → Option ℕ → Option ℕ
+unless_link link (Some other) = if other == link then None else Some other
+unless_link link None = None
+
+-- the link on which the pending command was sent, while the session has it
 abbrev pub sent_on : List Item → Option ℕ
 sent_on [] = None
 sent_on (Takes judged number ∷ past) = None
-sent_on (Puts (Tells number (Passes link command payload (Some outcome))) ∷ past) = None
+sent_on (Puts (Tells number (Passes link command payload (Some outcome) recording)) ∷ past) = None
 sent_on (Puts (Sends link (Asks command)) ∷ past) = Some link
+sent_on (LinkLost link ∷ past) = unless_link link (sent_on past)
+sent_on (Puts (Drops link cause) ∷ past) = unless_link link (sent_on past)
 sent_on (_ ∷ past) = sent_on past
 
 -- the number of the packet that the client is to get next in the pending command's reply
 abbrev pub reply_number : List Item → ℕ
 reply_number [] = 0
 reply_number (Takes judged number ∷ past) = number
-reply_number (Puts (Tells number (Passes link command payload outcome)) ∷ past) = number_behind number payload
+reply_number (Puts (Tells number (Passes link command payload outcome recording)) ∷ past) = number_behind number payload
 reply_number (_ ∷ past) = reply_number past
 
 -- the payloads that the client was passed since the last command was taken up, in its form
 abbrev pub told : List Item → List (List ℕ)
 told [] = []
 told (Takes judged number ∷ past) = []
-told (Puts (Tells number (Passes link command payload outcome)) ∷ past) = told past ++ payload ∷ []
+told (Puts (Tells number (Passes link command payload outcome recording)) ∷ past) = told past ++ payload ∷ []
 told (_ ∷ past) = told past
 
 -- the link from which the last of them came, while the reply isn't whole
 abbrev pub told_from : List Item → Option ℕ
 told_from [] = None
 told_from (Takes judged number ∷ past) = None
-told_from (Puts (Tells number (Passes link command payload (Some outcome))) ∷ past) = None
-told_from (Puts (Tells number (Passes link command payload None)) ∷ past) = Some link
+told_from (Puts (Tells number (Passes link command payload (Some outcome) recording)) ∷ past) = None
+told_from (Puts (Tells number (Passes link command payload None recording)) ∷ past) = Some link
 told_from (_ ∷ past) = told_from past
+
+-- Where it goes
+
+-- The class that a command counts as: as long as transactions aren't built, what opens or ends one may change anything.
+abbrev pub counted : Class → Class
+counted Read = Read
+counted PrimaryRead = PrimaryRead
+counted Write = Write
+counted Ddl = Ddl
+counted Session = Session
+counted AutocommitOn = AutocommitOn
+counted Refused = Refused
+counted _ = Other
+
+abbrev pub class_of_command : Command → Class
+class_of_command command = counted (class_by (request_of command.payload) command.payload)
+
+-- the class of the pending command
+abbrev pub class_by_pending : Option Command → Class
+class_by_pending (Some command) = class_of_command command
+class_by_pending None = Other
+
+-- a command by which anything may be changed keeps the session on its link
+abbrev pub keeps : Class → Bool
+keeps Other = true
+keeps _ = false
+
+abbrev pub kept_by : Class → ℕ → Option ℕ → Option ℕ
+kept_by class link (Some kept) = Some kept
+kept_by class link None = if keeps class then Some link else None
+
+-- the link that the session is kept on
+abbrev pub kept_on : List Item → Option ℕ
+kept_on [] = None
+kept_on (Puts (Sends link (Asks command)) ∷ past) = kept_by (class_of_command command) link (kept_on past)
+kept_on (Puts (Tells number (Passes link command payload (Some outcome) Keeps)) ∷ past) = Some link
+kept_on (_ ∷ past) = kept_on past
+
+-- it sets the session alone, and can be repeated on other links
+abbrev pub is_session : Class → Bool
+is_session Session = true
+is_session AutocommitOn = true
+is_session _ = false
+
+abbrev pub with_pending : List Command → Option Command → List Command
+with_pending commands (Some command) = commands ++ command ∷ []
+with_pending commands None = commands
+
+-- The session's history: its commands that set something and were answered without an error, which each of its links plays
+abbrev pub accepted : List Item → List Command
+accepted [] = []
+accepted (Puts (Tells number (Passes link command payload (Some outcome) Accepts)) ∷ past) = with_pending (accepted past) (pending past)
+accepted (_ ∷ past) = accepted past
+
+abbrev pub played_by : LinkStep → Option Purpose → ℕ → ℕ
+played_by (steps.Part payload role (Ends (Done status)) next behind) (Some (Plays command)) before = before + 1
+played_by _ _ before = before
+
+-- how many entries of the history a link has played, or led
+abbrev pub cursor : ℕ → List Item → ℕ
+cursor link [] = 0
+cursor link (Puts (Opens opened server login) ∷ past) = if opened == link then 0 else cursor link past
+cursor link (Puts (Tells number (Passes from command payload (Some outcome) Accepts)) ∷ past) =
+    if from == link then cursor link past + 1 else cursor link past
+cursor link (Comes from said ∷ past) = if from == link then played_by said (asked_on link past) (cursor link past) else cursor link past
+cursor link (_ ∷ past) = cursor link past
+
+abbrev pub banned_by : LinkStep → Option Purpose → (server : ℕ) → ℕ → ℕ
+banned_by (steps.Part payload role (Ends (Failed code)) next behind) (Some (Plays command)) server before = with_server server before
+banned_by _ _ server before = before
+
+-- the servers that answered an entry by an error, and not as the one that it was first sent to
+abbrev pub banned : List Item → ℕ
+banned [] = 0
+banned (Comes link said ∷ past) = banned_by said (asked_on link past) (server_of link past) (banned past)
+banned (_ ∷ past) = banned past
+
+-- the clock's last reading, in milliseconds
+abbrev pub now : List Item → ℕ
+now [] = 0
+now (Accepted session scramble reading ∷ past) = reading
+now (Began link server reading ∷ past) = reading
+now (Ticks reading ∷ past) = reading
+now (_ ∷ past) = now past
+
+-- How far the pending command has come: what its last route found, the link that it is to go on, the servers that were tried,
+-- and whether it waits for a primary.
+abbrev pub routing : Config → List Item → Routing
+routing config [] = new_routing
+routing config (Takes judged number ∷ past) = new_routing
+routing config (Routed words loads next found ∷ past) =
+    routed found (link_to (server_in found) past) next (now past) (routing config past)
+routing config (Ticks reading ∷ past) = ticked config.primary_wait_ms reading (routing config past)
+routing config (LinkLost link ∷ past) = lost link (routing config past)
+routing config (Puts (Drops link cause) ∷ past) = lost link (routing config past)
+routing config (Puts (Tells number (Refuses NoPrimary)) ∷ past) = stopped (routing config past)
+routing config (_ ∷ past) = routing config past
+
+abbrev pub goes_by : (kept assigned : Option ℕ) → Option ℕ
+goes_by (Some link) assigned = Some link
+goes_by None assigned = assigned
+
+-- the link that the pending command is to go on
+abbrev pub goes_on : Config → List Item → Option ℕ
+goes_on config past = goes_by (kept_on past) (routing config past).assigned
+
+-- a reply on this link speaks of the session's state: the session is kept there, or the command was routed to the primary
+abbrev pub speaks : (kept : Option ℕ) → ℕ → Routing → Bool
+speaks kept link r = is_at link kept || (is_none kept && goes_to_primary r)
+
+abbrev pub autocommit_by : (speaks : Bool) → (status : ℕ) → Bool → Bool
+autocommit_by true status before = shows_autocommit status
+autocommit_by false status before = before
+
+-- autocommit is on, as the last reply said that speaks of it
+abbrev pub autocommit : Config → List Item → Bool
+autocommit config [] = true
+autocommit config (Puts (Tells number (Passes link command payload (Some (Done status)) recording)) ∷ past) =
+    autocommit_by (speaks (kept_on past) link (routing config past)) status (autocommit config past)
+autocommit config (_ ∷ past) = autocommit config past
 
 -- What the session waits for
 
-abbrev pub asking_by : Put → Option Login → Option Login
-asking_by (Routes login) before = Some login
+abbrev pub asking_by : Put → Bool → Bool
+asking_by Routes before = true
 asking_by _ before = before
 
--- it asked the worker where its command is to go, and wasn't answered; a link for it is to log in so
-abbrev pub asking : List Item → Option Login
-asking [] = None
-asking (Routed link server ∷ past) = None
-asking (Starves made number ∷ past) = None
+-- it asked the worker for the words of the pool, and wasn't answered
+abbrev pub asking : List Item → Bool
+asking [] = false
+asking (Routed words loads next found ∷ past) = false
+asking (Starves made number ∷ past) = false
 asking (Puts put ∷ past) = asking_by put (asking past)
 asking (_ ∷ past) = asking past
 

@@ -22,6 +22,8 @@ pub enum ProxyError {
     TooManyConnections,
     /// A command is longer than the limit.
     CommandTooLarge,
+    /// No server was the primary for as long as a command may wait.
+    NoPrimary,
     /// Memory was wanting in the session.
     OutOfMemory,
 }
@@ -42,6 +44,7 @@ impl ProxyError {
             ProxyError::NotInReadOnly => b"\xff\xd3\x04#42000not in a read-only transaction",
             ProxyError::TooManyConnections => b"\xff\x10\x04#08004too many connections",
             ProxyError::CommandTooLarge => b"\xff\x81\x04#08S01command too large",
+            ProxyError::NoPrimary => b"\xff\x51\x04#HY000no primary",
             ProxyError::OutOfMemory => b"\xff\x0d\x04#HY001out of memory",
         }
     }

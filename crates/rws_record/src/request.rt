@@ -4,8 +4,8 @@ ghost use Rattle.rws_record.specs.Requests.{arguments_of, class_by, request_by, 
 
 use rws_class::{Class, classify};
 use rws_msgs::command::{
-    COM_FIELD_LIST, COM_PING, COM_QUERY, COM_QUIT, COM_RESET_CONNECTION, COM_SET_OPTION,
-    COM_STMT_FETCH,
+    COM_FIELD_LIST, COM_INIT_DB, COM_PING, COM_QUERY, COM_QUIT, COM_RESET_CONNECTION,
+    COM_SET_OPTION, COM_STMT_FETCH,
 };
 
 /// A command by its first byte.
@@ -19,6 +19,8 @@ pub enum Request {
     Query,
     /// COM_FIELD_LIST
     FieldList,
+    /// COM_INIT_DB
+    InitDb,
     /// A command that the proxy knows and doesn't take: COM_SET_OPTION, COM_STMT_FETCH, COM_RESET_CONNECTION.
     Unsupported,
     /// No byte, or any other.
@@ -44,6 +46,7 @@ impl Request {
         match self {
             Request::Query => classify(arguments(payload)),
             Request::FieldList => Class::PrimaryRead,
+            Request::InitDb => Class::Session,
             Request::Quit | Request::Ping | Request::Unsupported | Request::Unknown => Class::Other,
         }
     }
@@ -57,6 +60,7 @@ impl Request {
             COM_QUERY => Request::Query,
             COM_FIELD_LIST => Request::FieldList,
             COM_PING => Request::Ping,
+            COM_INIT_DB => Request::InitDb,
             COM_SET_OPTION | COM_STMT_FETCH | COM_RESET_CONNECTION => Request::Unsupported,
             _ => Request::Unknown,
         }
