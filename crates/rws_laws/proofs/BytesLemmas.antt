@@ -26,7 +26,7 @@ use Rattle.rws_link.specs.Stepping.{LinkState, LogsIn, Rests, Awaits, IsLost, Ex
 use Rattle.rws_config.specs.declared.config.Config.{Config}
 use Rattle.rws_config.specs.declared.limits.TheConstants.{SERVER_PAYLOAD}
 use Rattle.rws_record.specs.Item.{Item}
-use Rattle.rws_record.specs.Item.Item.{Accepted, TurnsAway, Began, ClientBytes, LinkReady, LinkBytes, ClientGone, LinkLost, Routed, Comes, Connects, Takes, Floods, Puts, Starves}
+use Rattle.rws_record.specs.Item.Item.{Accepted, TurnsAway, Began, ClientBytes, LinkReady, LinkBytes, ClientGone, LinkLost, Ticks, Routed, Comes, Connects, Takes, Floods, Puts, Starves}
 use Rattle.rws_record.specs.Item.Put.{Hands, Tells, Routes, Opens, LogsInto, Sends, Drops, Closes}
 use Rattle.rws_record.specs.Values.{kind_of, link_held, linked, sent_for, unread}
 use Rattle.rws_laws.specs.Servers.{came_on, with_said}
@@ -161,7 +161,7 @@ held_fits link (LinkBytes from bytes ∷ past) heard =
 held_fits link (Comes from said ∷ past) heard =
     let below = held_fits link past heard in
     one_fits (from == link) _ _ (step_fits (linked link past) below) below
-held_fits link (Began first server ∷ past) heard = one_fits (first == link) Rests _ none_fit (held_fits link past heard)
+held_fits link (Began first server reading ∷ past) heard = one_fits (first == link) Rests _ none_fit (held_fits link past heard)
 held_fits link (Puts (Sends to purpose) ∷ past) heard =
     one_fits (to == link) (sent (sent_for purpose) (Some (kind_of purpose))) _ none_fit (held_fits link past heard)
 held_fits link (LinkReady ready ∷ past) heard =
@@ -169,16 +169,17 @@ held_fits link (LinkReady ready ∷ past) heard =
     one_fits (ready == link) _ _ (one_fits (is_new (linked link past)) Rests _ none_fit below) below
 held_fits link (Puts (Opens opened server login) ∷ past) heard =
     one_fits (opened == link) (opening login) _ none_fit (held_fits link past heard)
-held_fits link (Accepted session scramble ∷ past) heard = held_fits link past heard
+held_fits link (Accepted session scramble reading ∷ past) heard = held_fits link past heard
 held_fits link (TurnsAway told ∷ past) heard = held_fits link past heard
-held_fits link (Routed its server ∷ past) heard = held_fits link past heard
+held_fits link (Routed words loads next found ∷ past) heard = held_fits link past heard
 held_fits link (Connects said ∷ past) heard = held_fits link past heard
 held_fits link (Puts (Hands packets) ∷ past) heard = held_fits link past heard
-held_fits link (Puts (Routes login) ∷ past) heard = held_fits link past heard
+held_fits link (Puts Routes ∷ past) heard = held_fits link past heard
 held_fits link (Puts (LogsInto to packets) ∷ past) heard = held_fits link past heard
 held_fits link (ClientBytes bytes ∷ past) heard = held_fits link past heard
 held_fits link (ClientGone ∷ past) heard = held_fits link past heard
 held_fits link (LinkLost gone ∷ past) heard = held_fits link past heard
+held_fits link (Ticks reading ∷ past) heard = held_fits link past heard
 held_fits link (Takes it number ∷ past) heard = held_fits link past heard
 held_fits link (Floods bytes ∷ past) heard = held_fits link past heard
 held_fits link (Starves made number ∷ past) heard = held_fits link past heard
@@ -214,20 +215,21 @@ came_fits config link (Comes from said ∷ past) caused heard =
         → AllByRecursion AreBytes (if test then with_said said (came_on link past) else came_on link past)
     by_test true said read below = by_said said read below
     by_test false said read below = below
-came_fits config link (Accepted session scramble ∷ past) caused heard = came_fits config link past caused.2 heard
+came_fits config link (Accepted session scramble reading ∷ past) caused heard = came_fits config link past caused.2 heard
 came_fits config link (TurnsAway told ∷ past) caused heard = came_fits config link past caused.2 heard
 came_fits config link (LinkReady ready ∷ past) caused heard = came_fits config link past caused.2 heard
-came_fits config link (Routed its server ∷ past) caused heard = came_fits config link past caused.2 heard
+came_fits config link (Routed words loads next found ∷ past) caused heard = came_fits config link past caused.2 heard
 came_fits config link (Connects said ∷ past) caused heard = came_fits config link past caused.2 heard
 came_fits config link (Puts (Hands packets) ∷ past) caused heard = came_fits config link past caused.1 heard
-came_fits config link (Puts (Routes login) ∷ past) caused heard = came_fits config link past caused.1 heard
+came_fits config link (Puts Routes ∷ past) caused heard = came_fits config link past caused.1 heard
 came_fits config link (Puts (Opens opened server login) ∷ past) caused heard = came_fits config link past caused.1 heard
 came_fits config link (Puts (LogsInto to packets) ∷ past) caused heard = came_fits config link past caused.1 heard
-came_fits config link (Began first server ∷ past) caused heard = came_fits config link past caused.2 heard
+came_fits config link (Began first server reading ∷ past) caused heard = came_fits config link past caused.2 heard
 came_fits config link (ClientBytes bytes ∷ past) caused heard = came_fits config link past caused.2 heard
 came_fits config link (LinkBytes from bytes ∷ past) caused heard = came_fits config link past caused.2 heard.1
 came_fits config link (ClientGone ∷ past) caused heard = came_fits config link past caused.2 heard
 came_fits config link (LinkLost gone ∷ past) caused heard = came_fits config link past caused.2 heard
+came_fits config link (Ticks reading ∷ past) caused heard = came_fits config link past caused.2 heard
 came_fits config link (Takes it number ∷ past) caused heard = came_fits config link past caused.2 heard
 came_fits config link (Floods bytes ∷ past) caused heard = came_fits config link past caused.2 heard
 came_fits config link (Starves made number ∷ past) caused heard = came_fits config link past caused.3 heard

@@ -20,8 +20,8 @@ use Rattle.rws_link.specs.declared.step.LinkStep.TheVariants as steps
 use Rattle.rws_link.specs.Stepping.{LinkState, LogsIn, Rests, Awaits, IsLost, Exchange, behind_part, fed, is_new, opened as opening, readied, sent, settled, step, with_part}
 use Rattle.rws_config.specs.declared.config.Config.{Config}
 use Rattle.rws_record.specs.Item.{Item, Purpose, Put}
-use Rattle.rws_record.specs.Item.Item.{Accepted, TurnsAway, Began, ClientBytes, LinkReady, LinkBytes, ClientGone, LinkLost, Comes, Puts}
-use Rattle.rws_record.specs.Item.Purpose.{Prepares, Asks}
+use Rattle.rws_record.specs.Item.Item.{Accepted, TurnsAway, Began, ClientBytes, LinkReady, LinkBytes, ClientGone, LinkLost, Ticks, Comes, Puts}
+use Rattle.rws_record.specs.Item.Purpose.{Prepares, Asks, Plays}
 use Rattle.rws_record.specs.Item.Put.{Hands, Tells, Routes, Opens, LogsInto, Sends, Drops, Closes}
 use Rattle.rws_record.specs.Values.{awaited, exchange, kind_of, linked, prepared_handle, sent_for}
 use Rattle.rws_record.specs.Record.{IsBeginning, IsRecord, IsInput}
@@ -30,7 +30,7 @@ use Rattle.rws_record.proofs.LinkedLemmas.{Says, after_loss_is, after_part_is}
 use Rattle.rws_record.proofs.LinkedLemmas.Says.{answers, enters, hurries, fails, breaks, part, garbled, wrong, again}
 use Rattle.rws_record.proofs.StepLemmas.{Due, Step, of_next}
 use Rattle.rws_record.proofs.StepLemmas.Due.{comes, connects, takes}
-use Rattle.rws_record.proofs.StepLemmas.Step.{pays, asks, prepares, sends, floods, reads}
+use Rattle.rws_record.proofs.StepLemmas.Step.{pays, asks, prepares, plays, sends, floods, reads}
 use Rattle.rws_laws.specs.Servers.{came_on, with_said}
 
 -- nothing came yet
@@ -169,7 +169,7 @@ due_came (takes p f) came = came
 put_came : (past : List Item) (put : Put) → Came past → Came (Puts put ∷ past)
 put_came past (Hands packets) came = came
 put_came past (Tells number tell) came = came
-put_came past (Routes login) came = came
+put_came past Routes came = came
 put_came past (Opens link server login) came = λ other e a. came other e (opening_leaves past link server login other e a)
 put_came past (LogsInto link packets) came = came
 put_came past (Sends to purpose) came = sending_came past to purpose came
@@ -180,7 +180,8 @@ step_came : {config : Config} {past : List Item} {item : Item} → Step config p
 step_came {past = past} (pays {put = put} o) came = put_came past put came
 step_came (asks o n p k l) came = came
 step_came {past = past} (prepares {link = to} o n k c) came = sending_came past to Prepares came
-step_came {past = past} (sends {link = to} {command = command} o n p s k c) came = sending_came past to (Asks command) came
+step_came {past = past} (plays {link = to} {command = command} o n k c s) came = sending_came past to (Plays command) came
+step_came {past = past} (sends {link = to} {command = command} o n p s k c d) came = sending_came past to (Asks command) came
 step_came (floods o n p above) came = came
 step_came (reads o n due) came = due_came due came
 
@@ -190,19 +191,20 @@ input_came past (LinkBytes from bytes) input came = λ link e a. came link e (sy
 input_came past (LinkReady ready) input came = λ link e a. came link e (sym (ready_keeps past ready link) ∙ a)
 input_came past ClientGone input came = came
 input_came past (LinkLost gone) input came = came
+input_came past (Ticks reading) input came = came
 input_came past _ input came = absurd input
 
-begun_came : (link server : ℕ) → Came (Began link server ∷ [])
-begun_came link server = λ other e a. by_test other e (link == other) a
+begun_came : (link server reading : ℕ) → Came (Began link server reading ∷ [])
+begun_came link server reading = λ other e a. by_test other e (link == other) a
   where
     by_test : (other : ℕ) (e : Exchange) (test : Bool) → awaited (if test then Rests else Rests) ≡ Some e → e.sofar ≡ []
     by_test other e true a = no_reply e a
     by_test other e false a = no_reply e a
 
 begins_came : (item : Item) → IsBeginning item → Came (item ∷ [])
-begins_came (Accepted session scramble) its = λ other e a. no_reply e a
+begins_came (Accepted session scramble reading) its = λ other e a. no_reply e a
 begins_came (TurnsAway told) its = λ other e a. no_reply e a
-begins_came (Began link server) its = begun_came link server
+begins_came (Began link server reading) its = begun_came link server reading
 begins_came _ its = absurd its
 
 -- what a link has of the reply that it owes is what came on it since it was asked

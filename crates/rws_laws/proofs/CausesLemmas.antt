@@ -1,7 +1,9 @@
 -- In a legal record all that was read and given out has its cause.
 use Rattle.std.proofs.Common.{◌≡◌, ℕ, Bool, true, false, List, [], ◌∷◌, refl, ap, subst, ◌∙◌, inl, inr, Some, None}
-use Rattle.std.specs.Prelude.{◌⊎◌, Contains}
-use Rattle.rws_native.specs.declared.login.Login.{Login}
+use Rattle.std.specs.Prelude.{◌⊎◌, Contains, slice_get}
+use Rattle.rws_pool.specs.declared.words.PoolWords.{PoolWords}
+use Rattle.rws_select.specs.declared.selector.Load.{Load}
+use Rattle.rws_route.specs.declared.destination.Target.{Target}
 use Rattle.rws_config.specs.declared.config.Config.{Config}
 use Rattle.rws_record.specs.declared.command.Command.{Command}
 use Rattle.rws_link.specs.declared.step.LinkCause.{LinkCause}
@@ -10,11 +12,11 @@ use Rattle.rws_link.specs.declared.step.LinkStep.{LinkStep}
 use Rattle.rws_link.specs.declared.step.LinkStep.TheVariants as said_by
 use Rattle.rws_link.specs.Stepping.{LinkState, is_some_byte}
 use Rattle.rws_record.specs.Item.{Item, Put}
-use Rattle.rws_record.specs.Item.Item.{Accepted, TurnsAway, Began, ClientBytes, LinkReady, LinkBytes, ClientGone, LinkLost, Routed, Comes}
+use Rattle.rws_record.specs.Item.Item.{Accepted, TurnsAway, Began, ClientBytes, LinkReady, LinkBytes, ClientGone, LinkLost, Ticks, Routed, Comes}
 use Rattle.rws_record.specs.Item.Put.{Drops, Sends}
-use Rattle.rws_record.specs.Item.Purpose.{Prepares, Asks}
-use Rattle.rws_record.specs.Values.{awaited, fronted, is_up, links, link_held, linked, kept_on, pending, sent_on, unread, is_over, is_starved}
-use Rattle.rws_record.specs.Rules.{drop_cause, is_free, next}
+use Rattle.rws_record.specs.Item.Purpose.{Prepares, Asks, Plays}
+use Rattle.rws_record.specs.Values.{accepted, awaited, cursor, fronted, is_up, links, link_held, linked, goes_on, pending, sent_on, unread, is_over, is_starved}
+use Rattle.rws_record.specs.Rules.{drop_cause, found_in, is_free, next}
 use Rattle.rws_record.specs.Record.{IsBeginning, IsRecord, IsInput}
 use Rattle.rws_record.specs.Record.IsRecord.{begins, steps, answers as answered, hears, starves}
 use Rattle.rws_record.specs.Run.{record_of}
@@ -23,9 +25,10 @@ use Rattle.rws_record.proofs.LinkedLemmas.Says.{answers, enters, hurries, fails,
 use Rattle.rws_record.proofs.WantLemmas.{step_starved}
 use Rattle.rws_record.proofs.StepLemmas.{Due, Step, of_next}
 use Rattle.rws_record.proofs.StepLemmas.Due.{comes, connects, takes}
-use Rattle.rws_record.proofs.StepLemmas.Step.{pays, asks, prepares, sends, floods, reads}
+use Rattle.rws_record.proofs.StepLemmas.Step.{pays, asks, prepares, plays, sends, floods, reads}
 use Rattle.rws_record.proofs.RecordLemmas.{contained, records}
 use Rattle.rws_laws.specs.Causes.{IsCaused, IsBehind, IsRead, AreCaused}
+use Rattle.rws_laws.specs.Client.{IsPending}
 use Rattle.rws_laws.specs.Client.Took.{took}
 use Rattle.rws_laws.specs.Servers.{IsUnprepared, NotEntered}
 use Rattle.rws_laws.specs.Servers.Entered.{entered}
@@ -34,34 +37,45 @@ use Rattle.rws_laws.proofs.AskedLemmas.AskedNow.{asked_now}
 use Rattle.rws_laws.proofs.EnteringLemmas.{Entering, IsEntering, is_entering, legal_entering}
 use Rattle.rws_laws.proofs.FrontLemmas.{front_says, said_so, steady, taken_so}
 use Rattle.rws_laws.proofs.HandshakeLemmas.{takes_so}
+use Rattle.rws_laws.proofs.HistoryLemmas.{played_all}
 use Rattle.rws_laws.proofs.PreparedLemmas.{ArePrepared, legal_prepared}
 use Rattle.rws_laws.proofs.LostLemmas.{its_login}
 use Rattle.rws_laws.specs.Laws.{Causes, CausesInRuns}
 use Rattle.rws_laws.proofs.Sound.{Caused, first_caused, Sound}
-use Rattle.rws_laws.proofs.SoundLemmas.{freed, legal_sound, not_up, noted, routable}
+use Rattle.rws_laws.proofs.SoundLemmas.{freed, legal_sound, not_up, noted}
 use Rattle.rws_laws.proofs.WantedLemmas.{ends_caused, legal_ends}
 
 some_byte : (rest : List ℕ) → IsBehind (is_some_byte rest) rest
 some_byte [] = refl
 some_byte (byte ∷ rest) = λ none. absurd cc
 
-send_caused : {config : Config} {past : List Item} {link : ℕ} {command : Command} → pending past ≡ Some command
-    → sent_on past ≡ None → kept_on past ≡ Some link → is_free true link past ≡ true → Sound config past → ArePrepared past
-    → IsCaused config (Sends link (Asks command)) past
-send_caused {past = past} {link = link} {command = command} p s k c sound up =
-    let free = freed true link past c in
-    (record { waits = p; asked = (sound.asks command p).asked }, s, k, contained link (links past) free.0, free.1, up link free.1, free.2)
+is_pending : {config : Config} {past : List Item} {command : Command} → pending past ≡ Some command → Sound config past
+    → IsPending config command past
+is_pending {command = command} p sound = record { waits = p; asked = (sound.asks command p).asked }
 
-prepare_caused : (config : Config) (past : List Item) (link : ℕ) → kept_on past ≡ Some link → is_free false link past ≡ true
-    → IsCaused config (Sends link Prepares) past
-prepare_caused config past link k c =
-    let free = freed false link past c in (k, contained link (links past) free.0, not_up (is_up link past) free.1, free.2)
+send_caused : {config : Config} {past : List Item} {link : ℕ} {command : Command} → pending past ≡ Some command
+    → sent_on past ≡ None → goes_on config past ≡ Some link → is_free true link past ≡ true → slice_get (accepted past) (cursor link past) ≡ None
+    → IsRecord config past → Sound config past → ArePrepared past → IsCaused config (Sends link (Asks command)) past
+send_caused {config} {past = past} {link = link} {command = command} p s g c d legal sound up =
+    let free = freed true link past c in
+    let has = contained link (links past) free.0 in
+    (is_pending p sound, s, g, has, free.1, up link free.1, free.2, played_all config past legal link has d)
+
+play_caused : (config : Config) (past : List Item) (link : ℕ) (command : Command) → is_free true link past ≡ true
+    → slice_get (accepted past) (cursor link past) ≡ Some command → ArePrepared past → IsCaused config (Sends link (Plays command)) past
+play_caused config past link command c s up =
+    let free = freed true link past c in (contained link (links past) free.0, free.1, up link free.1, free.2, s)
+
+prepare_caused : (config : Config) (past : List Item) (link : ℕ) → is_free false link past ≡ true → IsCaused config (Sends link Prepares) past
+prepare_caused config past link c =
+    let free = freed false link past c in (contained link (links past) free.0, not_up (is_up link past) free.1, free.2)
 
 -- what is owed for a link that is lost says why
-wrong_read : {A B C D : Type 0} → (A ⊎ (B ⊎ C)) → (A → D) → (B → D) → D ⊎ C
-wrong_read (inl a) of_a of_b = inl (of_a a)
-wrong_read (inr (inl b)) of_a of_b = inl (of_b b)
-wrong_read (inr (inr c)) of_a of_b = inr c
+wrong_read : {A B C D E : Type 0} → (A ⊎ (B ⊎ (C ⊎ D))) → (A → E) → (B → E) → (C → E) → E ⊎ D
+wrong_read (inl a) of_a of_b of_c = inl (of_a a)
+wrong_read (inr (inl b)) of_a of_b of_c = inl (of_b b)
+wrong_read (inr (inr (inl c))) of_a of_b of_c = inl (of_c c)
+wrong_read (inr (inr (inr d))) of_a of_b of_c = inr d
 
 -- a link says that it is lost, and nothing of a reply
 no_payload : {A : Type 0} (link : ℕ) (cause : LinkCause) (past : List Item) (code : ℕ) → IsUnprepared link code (Comes link (said_by.Lost cause) ∷ past) → A
@@ -78,7 +92,7 @@ lost_read : (config : Config) (past : List Item) (link : ℕ) (cause : LinkCause
     → IsCaused config (Drops link (drop_cause cause)) (Comes link (said_by.Lost cause) ∷ past) → IsRead config (Comes link (said_by.Lost cause)) past
 lost_read config past link losses.BadWire caused = ((caused.0, caused.1), caused.2)
 lost_read config past link losses.BadReply caused =
-    (wrong_read caused.0 (λ a. (a.1, a.3.came)) (λ b. (b.0, b.2.came)), caused.1)
+    (wrong_read caused.0 (λ a. (a.1, a.3.came)) (λ b. (b.0, b.2.came)) (λ c. (c.1, c.3.came)), caused.1)
 lost_read config past link losses.Unasked caused = caused
 lost_read config past link losses.Greeting caused = caused
 lost_read config past link losses.Plugin caused = caused
@@ -116,42 +130,46 @@ input_read config past (LinkBytes link bytes) input n below = (n, input, below)
 input_read config past (LinkReady link) input n below = (n, input, below)
 input_read config past ClientGone input n below = (n, tt, below)
 input_read config past (LinkLost link) input n below = (n, input, below)
+input_read config past (Ticks reading) input n below = (n, tt, below)
 input_read config past _ input n below = absurd input
 
-step_caused : {config : Config} {past : List Item} {item : Item} → Step config past item → Sound config past → Sound config (item ∷ past)
+step_caused : {config : Config} {past : List Item} {item : Item} → IsRecord config past → Step config past item → Sound config past → Sound config (item ∷ past)
     → Entering config past → ArePrepared past → AreCaused config past → AreCaused config (item ∷ past)
-step_caused {config} {past} (pays o) sound after entering up below =
+step_caused {config} {past} legal (pays o) sound after entering up below =
     (first_caused (subst (λ (list : List Put). Caused config list past) o sound.owes), below)
-step_caused (asks o n p k l) sound after entering up below = (routable o n p k l sound, below)
-step_caused {config} {past} (prepares {link = link} o n k c) sound after entering up below = (prepare_caused config past link k c, below)
-step_caused (sends o n p s k c) sound after entering up below = (send_caused p s k c sound up, below)
-step_caused (floods o n p above) sound after entering up below = (n, noted p above sound, below)
-step_caused (reads o n due) sound after entering up below = due_read due after (is_entering o n entering) n below
+step_caused legal (asks {command = command} o n p g w) sound after entering up below = ((command, is_pending p sound, g, w), below)
+step_caused {config} {past} legal (prepares {link = link} o n has c) sound after entering up below = (prepare_caused config past link c, below)
+step_caused {config} {past} legal (plays {link = link} {command = command} o n has c s) sound after entering up below =
+    (play_caused config past link command c s up, below)
+step_caused legal (sends o n p s g c d) sound after entering up below = (send_caused p s g c d legal sound up, below)
+step_caused legal (floods o n p above) sound after entering up below = (n, noted p above sound, below)
+step_caused legal (reads o n due) sound after entering up below = due_read due after (is_entering o n entering) n below
 
 -- whether memory was wanting before or not
 next_caused : {config : Config} {past : List Item} {item : Item} → IsRecord config past → next config past ≡ Some item → (starved : Bool)
     → is_starved past ≡ starved → AreCaused config past → AreCaused config (item ∷ past)
 next_caused {config} {past} {item} legal e false fed below =
     let step = of_next config past item e in
-    step_caused step (legal_sound legal fed) (legal_sound (steps legal e) (step_starved step ∙ fed)) (legal_entering legal) (legal_prepared legal) below
+    step_caused legal step (legal_sound legal fed) (legal_sound (steps legal e) (step_starved step ∙ fed)) (legal_entering legal) (legal_prepared legal) below
 next_caused {config} {past} {item} legal e true starved below =
     ends_caused (of_next config past item e) (legal_ends legal starved) below
 
 begins_caused : (config : Config) (item : Item) → IsBeginning item → AreCaused config (item ∷ [])
-begins_caused config (Accepted session scramble) its = (refl, refl, tt)
+begins_caused config (Accepted session scramble reading) its = (refl, refl, tt)
 begins_caused config (TurnsAway told) its = (refl, refl, tt)
-begins_caused config (Began link server) its = (refl, refl, tt)
+begins_caused config (Began link server reading) its = (refl, refl, tt)
 begins_caused config _ its = absurd its
 
-answer_caused : {config : Config} {past : List Item} {login : Login} (link server : ℕ) → AskedNow config login past → AreCaused config past
-    → AreCaused config (Routed link server ∷ past)
-answer_caused {login = login} link server (asked_now {past = past} legal o n p k l) below = (n, (past, login, refl), below)
+answer_caused : {config : Config} {past : List Item} (words : PoolWords) (loads : List Load) (next : ℕ) (found : Target) → AskedNow config past
+    → AreCaused config past → AreCaused config (Routed words loads next found ∷ past)
+answer_caused words loads next found (asked_now {past = past} legal o n p g w) below = (n, (past, refl), below)
 
 all_caused : {config : Config} {past : List Item} → IsRecord config past → AreCaused config past
 all_caused {config} (begins {item = item} its) = begins_caused config item its
 all_caused {config} (steps {past = past} {item = item} legal e) =
     next_caused legal e (is_starved past) refl (all_caused legal)
-all_caused (answered {link = link} {server = server} legal asked) = answer_caused link server (legal_asked legal asked) (all_caused legal)
+all_caused {config} (answered {past = past} {words = words} {loads = loads} {next_link = next} legal asked) =
+    answer_caused words loads next (found_in config past words loads) (legal_asked legal asked) (all_caused legal)
 all_caused {config} (hears {past = past} {item = item} legal rests none n input) =
     input_read config past item input n (all_caused legal)
 all_caused (starves legal once can its) = (once, can, its, all_caused legal)

@@ -22,7 +22,7 @@ use Rattle.rws_front.specs.Connection.{fault_number, heard, is_native, responded
 use Rattle.rws_front.specs.Laws.{ForLogin, IsProved}
 use Rattle.rws_front.proofs.LoginLemmas.{logins_are_proved}
 use Rattle.rws_record.specs.Item.{Item}
-use Rattle.rws_record.specs.Item.Item.{Accepted, TurnsAway, Began, ClientBytes, LinkReady, LinkBytes, ClientGone, LinkLost, Routed, Comes, Connects, Takes, Floods, Puts, Starves}
+use Rattle.rws_record.specs.Item.Item.{Accepted, TurnsAway, Began, ClientBytes, LinkReady, LinkBytes, ClientGone, LinkLost, Ticks, Routed, Comes, Connects, Takes, Floods, Puts, Starves}
 use Rattle.rws_record.specs.Values.{fronted}
 use Rattle.rws_record.proofs.StepLemmas.{IsConnecting}
 use Rattle.rws_record.proofs.StepLemmas.IsConnecting.{sends_back, lets_in, ends_it}
@@ -220,8 +220,8 @@ step_steady config front steady = record {
 
 pub steady : (config : Config) (past : List Item) → Steady config (fronted config past)
 steady config [] = record { limit = refl; goes = λ goes. refl; proved = tt }
-steady config (Accepted session scramble ∷ past) = record { limit = refl; goes = λ goes. refl; proved = tt }
-steady config (Began link server ∷ past) = record { limit = refl; goes = λ goes. refl; proved = tt }
+steady config (Accepted session scramble reading ∷ past) = record { limit = refl; goes = λ goes. refl; proved = tt }
+steady config (Began link server reading ∷ past) = record { limit = refl; goes = λ goes. refl; proved = tt }
 steady config (ClientBytes bytes ∷ past) =
     let below = steady config past in record { limit = below.limit; goes = below.goes; proved = below.proved }
 steady config (Connects said ∷ past) = step_steady config (fronted config past) (steady config past)
@@ -231,7 +231,8 @@ steady config (LinkReady link ∷ past) = steady config past
 steady config (LinkBytes link bytes ∷ past) = steady config past
 steady config (ClientGone ∷ past) = steady config past
 steady config (LinkLost link ∷ past) = steady config past
-steady config (Routed link server ∷ past) = steady config past
+steady config (Ticks reading ∷ past) = steady config past
+steady config (Routed words loads next found ∷ past) = steady config past
 steady config (Comes link said ∷ past) = steady config past
 steady config (Floods bytes ∷ past) = steady config past
 steady config (Puts put ∷ past) = steady config past

@@ -1,10 +1,11 @@
 -- A legal record stays sound when something is given out, a command is taken up, or a payload of its reply comes.
-use Rattle.std.proofs.Common.{◌≡◌, ℕ, Bool, true, false, List, [], ◌∷◌, ◌++◌, drop, refl, sym, ap, subst, ◌∙◌, append_assoc, Option, Some, None}
-use Rattle.std.specs.Prelude.{◌==◌, if◌then◌else◌}
+use Rattle.std.proofs.Common.{◌≡◌, ℕ, Bool, true, false, List, [], ◌∷◌, ◌++◌, drop, refl, sym, ap, subst, ◌∙◌, append_assoc, inl, inr, Option, Some, None}
+use Rattle.std.specs.Prelude.{◌==◌, ◌⊎◌, if◌then◌else◌}
 use Rattle.std.proofs.lemmas.Bool.{eqb-true, eq-eqb}
 use Rattle.std.proofs.lemmas.List.{append-nil}
 use Rattle.rws_wire.specs.declared.close_reason.CloseReason.{CloseReason}
 use Rattle.rws_wire.specs.declared.drop_cause.DropCause.{DropCause}
+use Rattle.rws_wire.specs.declared.drop_cause.DropCause.TheVariants.{Kept}
 use Rattle.rws_wire.specs.Payloads.Beginning.{Whole}
 use Rattle.rws_native.specs.declared.login.Login.{Login}
 use Rattle.rws_front.specs.declared.phase.Phase.TheVariants.{Commands}
@@ -22,44 +23,51 @@ use Rattle.rws_link.specs.declared.step.LinkStep.TheVariants as steps
 use Rattle.rws_link.specs.Stepping.{Exchange, is_some_byte, opened as opening, sent, with_part}
 use Rattle.rws_config.specs.declared.config.Config.{Config}
 use Rattle.rws_record.specs.declared.command.Command.{Command}
+use Rattle.rws_record.specs.declared.proxy_error.ProxyError.{ProxyError}
+use Rattle.rws_record.specs.declared.proxy_error.ProxyError.TheVariants.{UnknownCommand, NotSupported, UnknownStatement, BadExecute, TooManyStatements, NotInReadOnly, TooManyConnections, CommandTooLarge, NoPrimary, OutOfMemory}
 use Rattle.rws_record.specs.declared.request.Request.{Request}
 use Rattle.rws_record.specs.declared.request.Request.TheVariants as requests
-use Rattle.rws_record.specs.Item.{Item, Judged, Purpose, Tell, Put}
+use Rattle.rws_record.specs.Item.{Item, Judged, Purpose, Recording, Tell, Put}
 use Rattle.rws_record.specs.Item.Item.{LinkReady, Comes, Takes, Puts}
-use Rattle.rws_record.specs.Item.Purpose.{Prepares, Asks}
+use Rattle.rws_record.specs.Item.Purpose.{Prepares, Asks, Plays}
 use Rattle.rws_record.specs.Item.Put.{Hands, Tells, Routes, Opens, LogsInto, Sends, Drops, Closes}
+use Rattle.rws_record.specs.Item.Recording.{Nothing, Accepts, Keeps}
 use Rattle.rws_record.specs.Item.Tell.{Passes, Owns, Refuses}
 use Rattle.rws_record.specs.Requests.{arguments_of, class_by, request_of}
 use Rattle.rws_class.specs.Classes.{class_of}
+use Rattle.rws_class.specs.declared.class.Class.{Class}
+use Rattle.rws_class.specs.declared.class.Class.TheVariants.{Read, PrimaryRead, Write, Session, Begin, BeginReadOnly, Commit, Rollback, AutocommitOn, AutocommitOff, TrxLocal, Ddl, Refused as Forbidden, Other}
 use Rattle.rws_record.specs.Judging.{is_forbidden, judged, judged_as, query_judged}
-use Rattle.rws_record.specs.Values.{fronted, links, kept_on, asked_on, awaited, exchange, is_up, prepared_by, kind_of, linked, prepared_handle, sent_for, pending, sent_on, reply_number, told, told_from, is_over}
-use Rattle.rws_record.specs.Rules.{after_loss, after_answer, farewells, owed}
+use Rattle.rws_record.specs.Values.{class_of_command, contains, fronted, goes_by, goes_on, keeps, kept_by, links, kept_on, asked_on, awaited, exchange, is_up, prepared_by, kind_of, linked, prepared_handle, sent_for, pending, routing, sent_on, reply_number, told, told_from, is_over, unless_link, without}
+use Rattle.rws_record.specs.Rules.{after_keeping, after_loss, after_answer, farewells, follow, is_loss, owed, recording_of}
+use Rattle.rws_record.proofs.WantLemmas.{closes_soon}
 use Rattle.rws_laws.specs.Client.{Took, begins_with}
 use Rattle.rws_laws.specs.Client.Took.{took}
 use Rattle.rws_laws.specs.Client.Asked.{here}
-use Rattle.rws_laws.specs.Causes.{IsCaused}
+use Rattle.rws_laws.specs.Causes.{IsCaused, JustKept}
+use Rattle.rws_laws.specs.Causes.JustKept.{sends, fills, gives_up}
 use Rattle.rws_laws.proofs.CameLemmas.{left_by, no_form}
-use Rattle.rws_laws.proofs.Sound.{Caused, Links, Sent, IsAsked, Asking, passed, AwaitedBy, WaitsBy, WaitsOn, Sound, kept_there, links_keep, same_some}
-use Rattle.rws_laws.proofs.Sound.WaitsOn.{prepares, replies}
-use Rattle.rws_laws.proofs.Sound.Caused.{nothing, drops, closes, hands, opens, logs_on, tells}
+use Rattle.rws_laws.proofs.Sound.{Caused, Sent, IsAsked, Asking, passed, AwaitedBy, WaitsBy, WaitsOn, Sound, Telling, TellsOn, not_soon, same_some}
+use Rattle.rws_laws.proofs.Sound.WaitsOn.{prepares, repeats, replies}
+use Rattle.rws_laws.proofs.Sound.Caused.{nothing, drops, leaves, closes, hands, opens, logs_on, tells}
 use Rattle.rws_laws.proofs.Sound.ToldBy.{none_told, all}
-use Rattle.rws_laws.proofs.LinksLemmas.{Dropped, dropped, is_no_close, links_drop, links_open, links_stay, links_close}
-use Rattle.rws_laws.proofs.LinksLemmas.Dropped.{for_fault, at_end}
-use Rattle.rws_laws.proofs.ReplyLemmas.{passes_same, still_asked, asks_on, told_part, unsent_told, told_sent, sent_there, owes_same, drop_passes, farewells_pass, waits_none}
-use Rattle.rws_laws.proofs.OwedLemmas.{farewells_caused, loss_caused, command_caused, CameNext, said, form, grown, owes_then, reply_caused}
+use Rattle.rws_laws.proofs.ListLemmas.{had_before}
+use Rattle.rws_laws.proofs.LinksLemmas.{Dropped, cut_closes, dropped, farewells_caused, others_caused}
+use Rattle.rws_laws.proofs.LinksLemmas.Dropped.{for_fault, at_end, since_kept}
+use Rattle.rws_laws.proofs.ReplyLemmas.{passes_same, still_asked, asks_on, told_part, told_without, unless_other, unsent_told, unsent_waits, told_sent, sent_there, owes_same, drop_passes, farewells_pass, keeping_passes, waits_none, without_sent, without_waits}
+use Rattle.rws_laws.proofs.OwedLemmas.{cut, loss_caused, command_caused, CameNext, said, form, grown, owes_then, reply_caused}
 
 -- What is given out because it is owed
 
 -- what is left to pass on once a payload was told
-one_passed : (list : List Payload) (owing : List Put) (number link : ℕ) (command : Command) (payload : Payload) (outcome : Option Outcome) (others : List Put)
-    → owing ≡ Tells number (Passes link command payload outcome) ∷ others
+one_passed : (list : List Payload) (owing : List Put) (number link : ℕ) (command : Command) (payload : Payload) (outcome : Option Outcome) (recording : Recording)
+    (others : List Put) → owing ≡ Tells number (Passes link command payload outcome recording) ∷ others
     → list ++ passed owing ≡ (list ++ payload ∷ []) ++ passed (drop 1 owing)
-one_passed list owing number link command payload outcome others o = rw o (sym (append_assoc list (payload ∷ []) (passed others)))
+one_passed list owing number link command payload outcome recording others o = rw o (sym (append_assoc list (payload ∷ []) (passed others)))
 
 -- something is given out that changes nothing but what is owed
-record IsQuiet (put : Put) (past : List Item) : Type 0 where
-  links : links (Puts put ∷ past) ≡ links past
-  kept : kept_on (Puts put ∷ past) ≡ kept_on past
+record IsQuiet (config : Config) (put : Put) (past : List Item) : Type 0 where
+  goes : goes_on config (Puts put ∷ past) ≡ goes_on config past
   over : is_over (Puts put ∷ past) ≡ is_over past
   pending : pending (Puts put ∷ past) ≡ pending past
   sent : sent_on (Puts put ∷ past) ≡ sent_on past
@@ -69,222 +77,399 @@ record IsQuiet (put : Put) (past : List Item) : Type 0 where
   exchange : (link : ℕ) → exchange link (Puts put ∷ past) ≡ exchange link past
   asked : (link : ℕ) → asked_on link (Puts put ∷ past) ≡ asked_on link past
   up : (link : ℕ) → is_up link (Puts put ∷ past) ≡ is_up link past
-  owes : owed (Puts put ∷ past) ≡ drop 1 (owed past)
+  owes : owed config (Puts put ∷ past) ≡ drop 1 (owed config past)
+  links : links (Puts put ∷ past) ≡ links past
+
+-- an error of the proxy's own changes nothing of where the pending command goes
+refused_goes : (config : Config) (past : List Item) (number : ℕ) (error : ProxyError)
+    → goes_on config (Puts (Tells number (Refuses error)) ∷ past) ≡ goes_on config past
+refused_goes config past number UnknownCommand = refl
+refused_goes config past number NotSupported = refl
+refused_goes config past number UnknownStatement = refl
+refused_goes config past number BadExecute = refl
+refused_goes config past number TooManyStatements = refl
+refused_goes config past number NotInReadOnly = refl
+refused_goes config past number TooManyConnections = refl
+refused_goes config past number CommandTooLarge = refl
+refused_goes config past number NoPrimary = refl
+refused_goes config past number OutOfMemory = refl
+
+-- and answers it, or leaves it
+refused_leaves : (past : List Item) (number : ℕ) (error : ProxyError)
+    → (error ≡ NoPrimary) ⊎ (pending (Puts (Tells number (Refuses error)) ∷ past) ≡ pending past)
+refused_leaves past number UnknownCommand = inr refl
+refused_leaves past number NotSupported = inr refl
+refused_leaves past number UnknownStatement = inr refl
+refused_leaves past number BadExecute = inr refl
+refused_leaves past number TooManyStatements = inr refl
+refused_leaves past number NotInReadOnly = inr refl
+refused_leaves past number TooManyConnections = inr refl
+refused_leaves past number CommandTooLarge = inr refl
+refused_leaves past number NoPrimary = inl refl
+refused_leaves past number OutOfMemory = inr refl
+
+-- where a session has just been kept, the command went there, if it is still out
+just_sent : {config : Config} (kept : ℕ) {past : List Item} → JustKept config kept past → (sent_on past ≡ Some kept) ⊎ (sent_on past ≡ None)
+just_sent kept (sends class before) = inl refl
+just_sent kept (fills recorded) = inr refl
+just_sent kept (gives_up {other = other} {past = past} just) = by_sent (just_sent kept just)
+  where
+    by_test : (test : Bool) → (kept == other) ≡ test → sent_on past ≡ Some kept
+        → (unless_link other (sent_on past) ≡ Some kept) ⊎ (unless_link other (sent_on past) ≡ None)
+    by_test true t s = inr (rw s (rw t refl))
+    by_test false t s = inl (unless_other other kept (sent_on past) s t)
+
+    by_sent : (sent_on past ≡ Some kept) ⊎ (sent_on past ≡ None)
+        → (unless_link other (sent_on past) ≡ Some kept) ⊎ (unless_link other (sent_on past) ≡ None)
+    by_sent (inl s) = by_test (kept == other) refl s
+    by_sent (inr s) = inr (rw s refl)
+
+-- a command that keeps the session goes on where it went
+goes_then : (class : Class) (link : ℕ) (kept assigned : Option ℕ) → goes_by kept assigned ≡ Some link
+    → goes_by (kept_by class link kept) assigned ≡ Some link
+goes_then class link (Some other) assigned g = g
+goes_then class link None assigned g = by_test (keeps class)
+  where
+    by_test : (test : Bool) → goes_by (if test then Some link else None) assigned ≡ Some link
+    by_test true = refl
+    by_test false = g
+
+keeps_is : (class : Class) → keeps class ≡ true → class ≡ Other
+keeps_is Other k = refl
+keeps_is Ddl k = absurd cc
+keeps_is Write k = absurd cc
+keeps_is Read k = absurd cc
+keeps_is PrimaryRead k = absurd cc
+keeps_is Session k = absurd cc
+keeps_is Begin k = absurd cc
+keeps_is BeginReadOnly k = absurd cc
+keeps_is Commit k = absurd cc
+keeps_is Rollback k = absurd cc
+keeps_is AutocommitOn k = absurd cc
+keeps_is AutocommitOff k = absurd cc
+keeps_is TrxLocal k = absurd cc
+keeps_is Forbidden k = absurd cc
 
 -- a link that is prepared stays so
 up_on : (said : LinkStep) (asked : Option Purpose) (up : Bool) → up ≡ true → prepared_by said asked up ≡ true
 up_on (steps.Part payload its (Ends (Done status)) number behind) (Some Prepares) up u = refl
 up_on _ asked up u = u
 
-pub coming_sent : (past : List Item) (from : ℕ) (said : LinkStep) → Sent past → Sent (Comes from said ∷ past)
-coming_sent past from said sent = λ link s.
-    let there = sent link s in (there.0, there.1, there.2, by_test link (from == link) there.3)
+pub coming_sent : (config : Config) (past : List Item) (from : ℕ) (said : LinkStep) → Sent config past → Sent config (Comes from said ∷ past)
+coming_sent config past from said sent = λ link s.
+    let there = sent link s in (there.0, there.1, there.2, by_test link (from == link) there.3, there.4)
   where
     by_test : (link : ℕ) (test : Bool) → is_up link past ≡ true
         → (if test then prepared_by said (asked_on link past) (is_up link past) else is_up link past) ≡ true
     by_test link true u = up_on said (asked_on link past) (is_up link past) u
     by_test link false u = u
 
-pub ready_sent : (past : List Item) (ready : ℕ) → Sent past → Sent (LinkReady ready ∷ past)
-ready_sent past ready sent = λ link s. let there = sent link s in (there.0, there.1, there.2, by_test link (ready == link) there.3)
+pub ready_sent : (config : Config) (past : List Item) (ready : ℕ) → Sent config past → Sent config (LinkReady ready ∷ past)
+ready_sent config past ready sent = λ link s. let there = sent link s in (there.0, there.1, there.2, by_test link (ready == link) there.3, there.4)
   where
     by_test : (link : ℕ) (test : Bool) → is_up link past ≡ true → (if test then true else is_up link past) ≡ true
     by_test link true u = refl
     by_test link false u = u
 
 module _ (config : Config) (past : List Item) (sound : Sound config past) where
-  quiet_sound : (put : Put) (others : List Put) → owed past ≡ put ∷ others → is_no_close (put ∷ others) ≡ true
-      → passed (put ∷ others) ≡ passed others → IsQuiet put past → Caused config others (Puts put ∷ past)
+  quiet_sound : (put : Put) (others : List Put) → owed config past ≡ put ∷ others → closes_soon (put ∷ others) ≡ closes_soon others
+      → passed (put ∷ others) ≡ passed others → IsQuiet config put past → Caused config others (Puts put ∷ past)
       → Sound config (Puts put ∷ past)
   quiet_sound put others o c p q rest =
-      let left : owed (Puts put ∷ past) ≡ others = q.owes ∙ ap (drop 1) o in
+      let left : owed config (Puts put ∷ past) ≡ others = q.owes ∙ ap (drop 1) o in
       record {
-        one_link = links_stay put o c q.links q.kept q.over sound.one_link;
-        sent = λ other s. let there = sound.sent other (sym q.sent ∙ s) in (there.0, q.pending ∙ there.1, q.kept ∙ there.2, q.up other ∙ there.3);
-        telling = rw (q.told, q.from, q.sent, q.pending) sound.telling;
+        sent = λ other s.
+            let there = sound.sent other (sym q.sent ∙ s) in
+            (there.0, q.pending ∙ there.1, q.goes ∙ there.2, q.up other ∙ there.3, ap (contains other) q.links ∙ there.4);
+        telling = λ n soon.
+            rw (q.told, q.from, q.sent, q.pending)
+            (sound.telling (sym q.over ∙ n) (ap closes_soon o ∙ c ∙ ap closes_soon (sym left) ∙ soon));
         asks = still_asked q.pending q.number q.told sound.asks;
-        waits = λ other e a. rw (q.pending, q.sent, q.told, q.asked other, q.up other)
-            (owes_same (owed past) (owed (Puts put ∷ past)) (ap passed o ∙ p ∙ sym (ap passed left)) sound.waits other e (sym (q.exchange other) ∙ a));
+        waits = λ other e has a. rw (q.pending, q.sent, q.told, q.asked other, q.up other)
+            (owes_same (links past) (owed config past) (owed config (Puts put ∷ past)) (ap passed o ∙ p ∙ sym (ap passed left)) sound.waits other e
+            (sym (ap (contains other) q.links) ∙ has) (sym (q.exchange other) ∙ a));
         owes = subst (λ (list : List Put). Caused config list (Puts put ∷ past)) (sym left) rest;
       }
 
-  -- once the end of the reply was told, only the preamble's may be awaited
-  end_waits : (number link : ℕ) (command : Command) (payload : Payload) (outcome : Outcome) → IsCaused config (Tells number (Passes link command payload (Some outcome))) past
+  -- once the end of the reply was told, only the preamble's or an entry's may be awaited
+  end_waits : (number link : ℕ) (command : Command) (payload : Payload) (outcome : Outcome) (recording : Recording)
+      → IsCaused config (Tells number (Passes link command payload (Some outcome) recording)) past
       → (list : List Payload) (owes : List Put) (other : ℕ) (e : Exchange) → exchange other past ≡ Some e
-      → WaitsOn other e (asked_on other past) (is_up other past) (pending past) (sent_on past) (told past) (owed past)
+      → WaitsOn other e (asked_on other past) (is_up other past) (pending past) (sent_on past) (told past) (owed config past)
       → WaitsOn other e (asked_on other past) (is_up other past) None None list owes
-  end_waits number link command payload outcome cause list owes other e a (prepares p u) = prepares p u
-  end_waits number link command payload outcome cause list owes other e a (replies awaited) =
+  end_waits number link command payload outcome recording cause list owes other e a (prepares p u) = prepares p u
+  end_waits number link command payload outcome recording cause list owes other e a (repeats p) = repeats p
+  end_waits number link command payload outcome recording cause list owes other e a (replies awaited) =
       let same : link ≡ other = same_some link other (sym cause.0.of_reply.sent ∙ awaited.sent_there) in
       let none : exchange other past ≡ None = rw same at cause.2 in
       absurd cc
 
   part_waits : (number link : ℕ) (command : Command) (payload : Payload) (others : List Put)
-      → owed past ≡ Tells number (Passes link command payload None) ∷ others
-      → (other : ℕ) (e : Exchange) → WaitsOn other e (asked_on other past) (is_up other past) (pending past) (sent_on past) (told past) (owed past)
-      → WaitsOn other e (asked_on other past) (is_up other past) (pending past) (sent_on past) (told past ++ payload ∷ []) (drop 1 (owed past))
+      → owed config past ≡ Tells number (Passes link command payload None Nothing) ∷ others
+      → (other : ℕ) (e : Exchange) → WaitsOn other e (asked_on other past) (is_up other past) (pending past) (sent_on past) (told past) (owed config past)
+      → WaitsOn other e (asked_on other past) (is_up other past) (pending past) (sent_on past) (told past ++ payload ∷ []) (drop 1 (owed config past))
   part_waits number link command payload others o other e (prepares p u) = prepares p u
+  part_waits number link command payload others o other e (repeats p) = repeats p
   part_waits number link command payload others o other e (replies awaited) = replies (record {
     command = awaited.command;
     asked_it = awaited.asked_it;
     kind = awaited.kind;
-    in_form = awaited.in_form ∙ one_passed (told past) (owed past) number link command payload None others o;
+    in_form = awaited.in_form ∙ one_passed (told past) (owed config past) number link command payload None Nothing others o;
     waits = awaited.waits;
     sent_there = awaited.sent_there;
   })
 
-  tell_sound : (number : ℕ) (tell : Tell) (others : List Put) → owed past ≡ Tells number tell ∷ others
-      → IsCaused config (Tells number tell) past → Caused config others (Puts (Tells number tell) ∷ past)
+  tell_sound : (number : ℕ) (tell : Tell) (others : List Put) → owed config past ≡ Tells number tell ∷ others
+      → IsCaused config (Tells number tell) past → Caused config (follow config (Tells number tell) past ++ others) (Puts (Tells number tell) ∷ past)
       → Sound config (Puts (Tells number tell) ∷ past)
-  tell_sound number (Passes link command payload (Some outcome)) others o cause rest = record {
-    one_link = links_stay (Tells number (Passes link command payload (Some outcome))) o refl refl refl refl sound.one_link;
+  tell_sound number (Passes link command payload (Some outcome) recording) others o cause rest = record {
     sent = λ other e. absurd cc;
-    telling = all;
+    telling = λ n soon. all;
     asks = λ other e. absurd cc;
-    waits = λ other e a. end_waits number link command payload outcome cause _ _ other e a (sound.waits other e a);
+    waits = λ other e has a. end_waits number link command payload outcome recording cause _ _ other e a (sound.waits other e has a);
     owes = rw o rest;
   }
-  tell_sound number (Passes link command payload None) others o cause rest = record {
-    one_link = links_stay (Tells number (Passes link command payload None)) o refl refl refl refl sound.one_link;
+  tell_sound number (Passes link command payload None Accepts) others o cause rest = absurd cause
+  tell_sound number (Passes link command payload None Keeps) others o cause rest = absurd cause
+  tell_sound number (Passes link command payload None Nothing) others o cause rest = record {
     sent = sound.sent;
-    telling = told_part (told past) payload link (pending past) (sent_on past) cause.0.of_reply.sent;
+    telling = λ n soon. told_part (told past) payload link (pending past) (sent_on past) cause.0.of_reply.sent;
     asks = asks_on number link command payload cause.0.of_reply.pending.waits cause.0.counts sound.asks;
-    waits = λ other e a. part_waits number link command payload others o other e (sound.waits other e a);
+    waits = λ other e has a. part_waits number link command payload others o other e (sound.waits other e has a);
     owes = rw o rest;
   }
   tell_sound number (Owns status) others o cause rest =
-      quiet_sound (Tells number (Owns status)) others o refl refl (record { links = refl; kept = refl; over = refl; pending = refl; sent = refl; told = refl; from = refl; number = refl; exchange = λ link. refl; asked = λ link. refl; up = λ link. refl; owes = refl }) rest
-  tell_sound number (Refuses error) others o cause rest =
-      quiet_sound (Tells number (Refuses error)) others o refl refl (record { links = refl; kept = refl; over = refl; pending = refl; sent = refl; told = refl; from = refl; number = refl; exchange = λ link. refl; asked = λ link. refl; up = λ link. refl; owes = refl }) rest
-
-  drop_owes : (link : ℕ) (cause : DropCause) → drop 1 (owed past) ≡ [] → Dropped past link cause
-      → Caused config (owed (Puts (Drops link cause) ∷ past)) (Puts (Drops link cause) ∷ past)
-  drop_owes link cause d (for_fault lossy is has) =
-      rw d (rw lossy (rw (append-nil (after_loss link past))
-      (loss_caused config (Puts (Drops link cause) ∷ past) link sound.sent sound.telling (still_asked refl refl refl sound.asks) is
-      (kept_there sound.one_link link has))))
-  drop_owes link cause d (at_end over) = rw d nothing
-
-  drop_sound : (link : ℕ) (cause : DropCause) → owed past ≡ Drops link cause ∷ [] → IsCaused config (Drops link cause) past
-      → Sound config (Puts (Drops link cause) ∷ past)
-  drop_sound link cause o caused =
-      let d : drop 1 (owed past) ≡ [] = ap (drop 1) o in
-      let given = dropped config past link cause caused in
-      record {
-        one_link = links_drop given d sound.one_link;
-        sent = sound.sent;
-        telling = sound.telling;
-        asks = still_asked refl refl refl sound.asks;
-        waits = owes_same (owed past) (owed (Puts (Drops link cause) ∷ past)) (ap passed o ∙ sym (drop_passes link cause past d)) sound.waits;
-        owes = drop_owes link cause d given;
+      quiet_sound (Tells number (Owns status)) others o refl refl (record { goes = refl; over = refl; pending = refl; sent = refl; told = refl; from = refl; number = refl; exchange = λ link. refl; asked = λ link. refl; up = λ link. refl; owes = refl; links = refl }) rest
+  tell_sound number (Refuses error) others o cause rest = by_error (refused_leaves past number error)
+    where
+      answered : IsCaused config (Tells number (Refuses NoPrimary)) past → owed config past ≡ Tells number (Refuses NoPrimary) ∷ others
+          → Caused config others (Puts (Tells number (Refuses NoPrimary)) ∷ past) → Sound config (Puts (Tells number (Refuses NoPrimary)) ∷ past)
+      answered late o rest = record {
+        sent = λ other s. let clash : None ≡ Some other = sym late.unsent ∙ s in absurd cc;
+        telling = λ n soon.
+            told_sent (told past) (told_from past) (sent_on past) None
+            (unsent_told late.command late.unsent late.pending.waits
+            (sound.telling n (ap closes_soon o ∙ sym (ap (λ (list : List Put). closes_soon (drop 1 list)) o) ∙ soon)));
+        asks = λ command e. absurd cc;
+        waits = λ other e has a.
+            unsent_waits None (sent_on past) (told past) (owed config (Puts (Tells number (Refuses NoPrimary)) ∷ past)) late.unsent
+            (sound.waits other e has a);
+        owes = rw o rest;
       }
 
-  close_sound : (reason : CloseReason) → owed past ≡ Closes reason ∷ [] → Sound config (Puts (Closes reason) ∷ past)
-  close_sound reason o = record {
-    one_link = links_close reason sound.one_link;
-    sent = sound.sent;
-    telling = sound.telling;
+      by_error : (error ≡ NoPrimary) ⊎ (pending (Puts (Tells number (Refuses error)) ∷ past) ≡ pending past)
+          → Sound config (Puts (Tells number (Refuses error)) ∷ past)
+      by_error (inl is) =
+          subst (λ (its : ProxyError). Sound config (Puts (Tells number (Refuses its)) ∷ past)) (sym is)
+          (answered (subst (λ (its : ProxyError). IsCaused config (Tells number (Refuses its)) past) is cause)
+          (subst (λ (its : ProxyError). owed config past ≡ Tells number (Refuses its) ∷ others) is o)
+          (subst (λ (its : ProxyError). Caused config others (Puts (Tells number (Refuses its)) ∷ past)) is rest))
+      by_error (inr left) =
+          quiet_sound (Tells number (Refuses error)) others o refl refl
+          (record { goes = refused_goes config past number error; over = refl; pending = left; sent = refl; told = refl; from = refl; number = refl; exchange = λ link. refl; asked = λ link. refl; up = λ link. refl; owes = refl; links = refl }) rest
+
+  -- A link is given up
+
+  -- what follows that for a fault
+  lossy_owes : (link : ℕ) (cause : DropCause) → is_loss cause ≡ true → owed config past ≡ Drops link cause ∷ []
+      → owed config (Puts (Drops link cause) ∷ past) ≡ after_loss config link past
+  lossy_owes link cause lossy o = rw (lossy, o) (append-nil (after_loss config link past))
+
+  lossless_owes : (link : ℕ) (cause : DropCause) (others : List Put) → is_loss cause ≡ false → owed config past ≡ Drops link cause ∷ others
+      → owed config (Puts (Drops link cause) ∷ past) ≡ others
+  lossless_owes link cause others lossless o = rw (lossless, o) refl
+
+  drop_telling : (link : ℕ) (cause : DropCause) (others : List Put) → owed config past ≡ Drops link cause ∷ others
+      → (is_loss cause ≡ true → others ≡ []) → Dropped config past link cause → TellsOn config (Puts (Drops link cause) ∷ past)
+  drop_telling link cause others o last (for_fault lossy lost has) = λ n soon.
+      let o : owed config past ≡ Drops link cause ∷ [] = o ∙ ap (λ (list : List Put). Drops link cause ∷ list) (last lossy) in
+      told_without link
+      (λ from.
+      let closes : closes_soon (owed config (Puts (Drops link cause) ∷ past)) ≡ true =
+      ap closes_soon (lossy_owes link cause lossy o) ∙ cut_closes config past link from in
+      let clash : true ≡ false = sym closes ∙ soon in cc)
+      (sound.telling n (ap closes_soon o))
+  drop_telling link cause others o last (at_end over) = λ n soon. absurd cc
+  drop_telling link cause others o last (since_kept kept just apart) = λ n soon.
+      let now : Telling past = sound.telling n (ap closes_soon o ∙ sym (ap closes_soon (lossless_owes link Kept others refl o)) ∙ soon) in
+      told_without link (λ from. elsewhere (cut link now from).1 (just_sent kept just)) now
+    where
+      elsewhere : sent_on past ≡ Some link → (sent_on past ≡ Some kept) ⊎ (sent_on past ≡ None) → ⊥
+      elsewhere s (inl there) = apart (same_some kept link (sym there ∙ s))
+      elsewhere s (inr none) = let clash : None ≡ Some link = sym none ∙ s in cc
+
+  drop_sound : (link : ℕ) (cause : DropCause) (others : List Put) → owed config past ≡ Drops link cause ∷ others
+      → (is_loss cause ≡ true → others ≡ []) → Dropped config past link cause
+      → Caused config (owed config (Puts (Drops link cause) ∷ past)) (Puts (Drops link cause) ∷ past)
+      → Sound config (Puts (Drops link cause) ∷ past)
+  drop_sound link cause others o last given owes = record {
+    sent = without_sent (links past) (sent_on past) (kept_on past) (routing config past) link sound.sent;
+    telling = drop_telling link cause others o last given;
     asks = still_asked refl refl refl sound.asks;
-    waits = owes_same (owed past) (farewells past) (ap passed o ∙ sym (farewells_pass (links past))) sound.waits;
-    owes = farewells_caused config past (Puts (Closes reason) ∷ past) sound.one_link refl refl;
+    waits = without_waits (links past) link (owed config past) (owed config (Puts (Drops link cause) ∷ past))
+        (ap passed o ∙ sym (ap (λ (list : List Put). passed (drop 1 list)) o) ∙ sym (drop_passes config link cause past)) sound.waits;
+    owes = owes;
+  }
+
+  fault_owes : (link : ℕ) (cause : DropCause) → is_over past ≡ false → owed config past ≡ Drops link cause ∷ [] → Dropped config past link cause
+      → Caused config (owed config (Puts (Drops link cause) ∷ past)) (Puts (Drops link cause) ∷ past)
+  fault_owes link cause n o (for_fault lossy lost has) =
+      subst (λ (list : List Put). Caused config list (Puts (Drops link cause) ∷ past)) (sym (lossy_owes link cause lossy o))
+      (loss_caused config past (Puts (Drops link cause) ∷ past) link lost sound.sent (sound.telling n (ap closes_soon o)) sound.asks)
+  fault_owes link cause n o (at_end over) = absurd cc
+  fault_owes link cause n o (since_kept kept just apart) = rw (lossless_owes link Kept [] refl o) nothing
+
+  close_sound : (reason : CloseReason) → owed config past ≡ Closes reason ∷ [] → Sound config (Puts (Closes reason) ∷ past)
+  close_sound reason o = record {
+    sent = sound.sent;
+    telling = λ n soon. absurd cc;
+    asks = still_asked refl refl refl sound.asks;
+    waits = owes_same (links past) (owed config past) (farewells past) (ap passed o ∙ sym (farewells_pass (links past))) sound.waits;
+    owes = farewells_caused config past (Puts (Closes reason) ∷ past) refl refl;
   }
 
   -- a link is opened, and nothing was sent before
-  open_sound : (link server : ℕ) (login : Login) → owed past ≡ Opens link server login ∷ [] → IsCaused config (Opens link server login) past
+  open_sound : (link server : ℕ) (login : Login) → owed config past ≡ Opens link server login ∷ [] → IsCaused config (Opens link server login) past
       → Sound config (Puts (Opens link server login) ∷ past)
   open_sound link server login o cause = record {
-    one_link = links_open link server login cause.2.no_link;
-    sent = λ other s. absurd (let there = sound.sent other s in let clash : None ≡ Some other = sym cause.2.nowhere ∙ there.2 in cc);
-    telling = sound.telling;
+    sent = λ other s. let clash : None ≡ Some other = sym cause.0.unsent ∙ s in absurd cc;
+    telling = λ n soon. sound.telling n (ap closes_soon o);
     asks = still_asked refl refl refl sound.asks;
-    waits = λ other e a. by_link other e (link == other) a;
+    waits = λ other e has a. by_link other e (link == other) refl has a;
     owes = rw o nothing;
   }
     where
-      by_link : (other : ℕ) (e : Exchange) (same : Bool) → awaited (if same then opening login else linked other past) ≡ Some e
+      by_link : (other : ℕ) (e : Exchange) (same : Bool) → (link == other) ≡ same
+          → contains other (without link (links past) ++ link ∷ []) ≡ true
+          → awaited (if same then opening login else linked other past) ≡ Some e
           → WaitsOn other e (if same then None else asked_on other past) (if same then false else is_up other past) (pending past) (sent_on past)
-          (told past) (drop 1 (owed past))
-      by_link other e true a = absurd cc
-      by_link other e false a =
-          passes_same (owed past) (drop 1 (owed past)) (ap passed o ∙ sym (ap (λ (list : List Put). passed (drop 1 list)) o)) (sound.waits other e a)
+          (told past) (drop 1 (owed config past))
+      by_link other e true t has a = absurd cc
+      by_link other e false t has a =
+          passes_same (owed config past) (drop 1 (owed config past)) (ap passed o ∙ sym (ap (λ (list : List Put). passed (drop 1 list)) o))
+          (sound.waits other e (had_before other link (links past) t has) a)
 
-  pub put_sound : (put : Put) (others : List Put) → owed past ≡ put ∷ others → Caused config (put ∷ others) past
+  pub put_sound : (put : Put) (others : List Put) → owed config past ≡ put ∷ others → Caused config (put ∷ others) past
       → Sound config (Puts put ∷ past)
   put_sound put others o (tells {number = number} {tell = tell} cause rest) = tell_sound number tell others o cause rest
-  put_sound put others o (drops {link = link} {cause = why} cause) = drop_sound link why o cause
+  put_sound put others o (drops {link = link} {cause = why} n cause) =
+      let given = dropped config past link why cause in
+      drop_sound link why [] o (λ lossy. refl) given (fault_owes link why n o given)
+  put_sound put others o (leaves {link = link} {cause = why} lossless cause rest) =
+      drop_sound link why others o (λ lossy. let clash : true ≡ false = sym lossy ∙ lossless in absurd cc) (dropped config past link why cause)
+      (subst (λ (list : List Put). Caused config list (Puts (Drops link why) ∷ past)) (sym (lossless_owes link why others lossless o)) rest)
   put_sound put others o (closes {reason = reason} cause) = close_sound reason o
   put_sound put others o (opens {link = link} {server = server} {login = login} cause) = open_sound link server login o cause
   put_sound put others o (hands {packets = packets} cause rest) =
-      quiet_sound (Hands packets) others o refl refl (record { links = refl; kept = refl; over = refl; pending = refl; sent = refl; told = refl; from = refl; number = refl; exchange = λ link. refl; asked = λ link. refl; up = λ link. refl; owes = refl }) rest
+      quiet_sound (Hands packets) others o refl refl (record { goes = refl; over = refl; pending = refl; sent = refl; told = refl; from = refl; number = refl; exchange = λ link. refl; asked = λ link. refl; up = λ link. refl; owes = refl; links = refl }) rest
   put_sound put others o (logs_on {link = link} {packets = packets} cause) =
-      quiet_sound (LogsInto link packets) [] o refl refl (record { links = refl; kept = refl; over = refl; pending = refl; sent = refl; told = refl; from = refl; number = refl; exchange = λ link. refl; asked = λ link. refl; up = λ link. refl; owes = refl }) nothing
+      quiet_sound (LogsInto link packets) [] o refl refl (record { goes = refl; over = refl; pending = refl; sent = refl; told = refl; from = refl; number = refl; exchange = λ link. refl; asked = λ link. refl; up = λ link. refl; owes = refl; links = refl }) nothing
 
   -- The worker is asked
 
-  pub routes_sound : (login : Login) → owed past ≡ [] → Sound config (Puts (Routes login) ∷ past)
-  routes_sound login o = record {
-    one_link = links_keep (Puts (Routes login)) o refl refl (λ is. is) sound.one_link;
+  pub routes_sound : owed config past ≡ [] → Sound config (Puts Routes ∷ past)
+  routes_sound o = record {
     sent = sound.sent;
-    telling = sound.telling;
+    telling = λ n soon. sound.telling n (not_soon o);
     asks = still_asked refl refl refl sound.asks;
-    waits = owes_same (owed past) (drop 1 (owed past)) (ap passed o ∙ sym (ap (λ (list : List Put). passed (drop 1 list)) o)) sound.waits;
+    waits = owes_same (links past) (owed config past) (drop 1 (owed config past)) (ap passed o ∙ sym (ap (λ (list : List Put). passed (drop 1 list)) o)) sound.waits;
     owes = rw o nothing;
   }
 
   -- A link is prepared
 
-  pub prepares_sound : (link : ℕ) → owed past ≡ [] → is_up link past ≡ false → Sound config (Puts (Sends link Prepares) ∷ past)
+  pub prepares_sound : (link : ℕ) → owed config past ≡ [] → is_up link past ≡ false → Sound config (Puts (Sends link Prepares) ∷ past)
   prepares_sound link o up = record {
-    one_link = links_keep (Puts (Sends link Prepares)) o refl refl (λ is. is) sound.one_link;
     sent = sound.sent;
-    telling = sound.telling;
+    telling = λ n soon. sound.telling n (not_soon o);
     asks = still_asked refl refl refl sound.asks;
-    waits = λ other e a. by_link other e (link == other) refl a;
+    waits = λ other e has a. by_link other e (link == other) refl has a;
     owes = rw o nothing;
   }
     where
-      by_link : (other : ℕ) (e : Exchange) (same : Bool) → (link == other) ≡ same
+      by_link : (other : ℕ) (e : Exchange) (same : Bool) → (link == other) ≡ same → contains other (links past) ≡ true
           → awaited (if same then sent (sent_for Prepares) (Some (kind_of Prepares)) else linked other past) ≡ Some e
           → WaitsOn other e (if same then Some Prepares else asked_on other past) (is_up other past) (pending past) (sent_on past) (told past)
-          (owed (Puts (Sends link Prepares) ∷ past))
-      by_link other e true t a = prepares refl (subst (λ (l : ℕ). is_up l past ≡ false) (eqb-true link other t) up)
-      by_link other e false t a =
-          passes_same (owed past) (drop 1 (owed past)) (ap passed o ∙ sym (ap (λ (list : List Put). passed (drop 1 list)) o)) (sound.waits other e a)
+          (owed config (Puts (Sends link Prepares) ∷ past))
+      by_link other e true t has a = prepares refl (subst (λ (l : ℕ). is_up l past ≡ false) (eqb-true link other t) up)
+      by_link other e false t has a =
+          passes_same (owed config past) (drop 1 (owed config past)) (ap passed o ∙ sym (ap (λ (list : List Put). passed (drop 1 list)) o))
+          (sound.waits other e has a)
+
+  -- An entry of the history is played
+
+  pub plays_sound : (link : ℕ) (command : Command) → owed config past ≡ [] → Sound config (Puts (Sends link (Plays command)) ∷ past)
+  plays_sound link command o = record {
+    sent = sound.sent;
+    telling = λ n soon. sound.telling n (not_soon o);
+    asks = still_asked refl refl refl sound.asks;
+    waits = λ other e has a. by_link other e (link == other) refl has a;
+    owes = rw o nothing;
+  }
+    where
+      by_link : (other : ℕ) (e : Exchange) (same : Bool) → (link == other) ≡ same → contains other (links past) ≡ true
+          → awaited (if same then sent (sent_for (Plays command)) (Some (kind_of (Plays command))) else linked other past) ≡ Some e
+          → WaitsOn other e (if same then Some (Plays command) else asked_on other past) (is_up other past) (pending past) (sent_on past) (told past)
+          (owed config (Puts (Sends link (Plays command)) ∷ past))
+      by_link other e true t has a = repeats refl
+      by_link other e false t has a =
+          passes_same (owed config past) (drop 1 (owed config past)) (ap passed o ∙ sym (ap (λ (list : List Put). passed (drop 1 list)) o))
+          (sound.waits other e has a)
 
   -- The pending command is sent
 
-  module _ (link : ℕ) (command : Command) (o : owed past ≡ []) (p : pending past ≡ Some command) (s : sent_on past ≡ None) where
-    now_awaited : (other : ℕ) (e : Exchange) (same : Bool) → (link == other) ≡ same
+  module _ (link : ℕ) (command : Command) (o : owed config past ≡ []) (n : is_over past ≡ false) (p : pending past ≡ Some command) (s : sent_on past ≡ None) where
+    telling_now : Telling past
+    telling_now = sound.telling n (not_soon o)
+
+    -- what follows passes nothing
+    sending_passes : passed (owed config (Puts (Sends link (Asks command)) ∷ past)) ≡ []
+    sending_passes = rw o
+        (ap passed (append-nil (after_keeping (keeps (class_of_command command)) link (kept_on past) (links past)))
+        ∙ keeping_passes (keeps (class_of_command command)) link (kept_on past) (links past))
+
+    now_awaited : (other : ℕ) (e : Exchange) (same : Bool) → (link == other) ≡ same → contains other (links past) ≡ true
         → awaited (if same then sent (sent_for (Asks command)) (Some (kind_of (Asks command))) else linked other past) ≡ Some e
         → WaitsOn other e (if same then Some (Asks command) else asked_on other past) (is_up other past) (pending past) (Some link) (told past)
-        (owed (Puts (Sends link (Asks command)) ∷ past))
-    now_awaited other e true t a =
+        (owed config (Puts (Sends link (Asks command)) ∷ past))
+    now_awaited other e true t has a =
         let is : record { kind = command.kind; next = number_behind 0 command.payload; sofar = [] } ≡ e = same_some _ e a in
         replies (record {
           command = command;
           asked_it = refl;
           kind = sym (ap (λ (x : Exchange). x.kind) is);
-          in_form = subst (λ (x : Exchange). client_reply command.kind prepared_handle x.sofar ≡ told past ++ passed (drop 1 (owed past))) is
-              (rw (o, (unsent_told command s p sound.telling).0) (no_form command.kind));
+          in_form = subst (λ (x : Exchange). client_reply command.kind prepared_handle x.sofar ≡ told past ++ passed (owed config (Puts (Sends link (Asks command)) ∷ past))) is
+              (rw (sending_passes, (unsent_told command s p telling_now).0) (no_form command.kind));
           waits = p;
           sent_there = ap Some (eqb-true link other t);
         })
-    now_awaited other e false t a = only_prepares (sound.waits other e a)
+    now_awaited other e false t has a = only_prepares (sound.waits other e has a)
       where
-        only_prepares : WaitsOn other e (asked_on other past) (is_up other past) (pending past) (sent_on past) (told past) (owed past)
+        only_prepares : WaitsOn other e (asked_on other past) (is_up other past) (pending past) (sent_on past) (told past) (owed config past)
             → WaitsOn other e (asked_on other past) (is_up other past) (pending past) (Some link) (told past)
-            (owed (Puts (Sends link (Asks command)) ∷ past))
+            (owed config (Puts (Sends link (Asks command)) ∷ past))
         only_prepares (prepares p u) = prepares p u
+        only_prepares (repeats p) = repeats p
         only_prepares (replies awaits) = let there = awaits.sent_there in absurd cc
 
-    pub send_sound : kept_on past ≡ Some link → is_up link past ≡ true → Sound config (Puts (Sends link (Asks command)) ∷ past)
-    send_sound kept up = record {
-      one_link = links_keep (Puts (Sends link (Asks command))) o refl refl (λ is. is) sound.one_link;
-      sent = sent_there (λ l. is_up l past) command (pending past) link (kept_on past) p kept up;
-      telling = told_sent (told past) (told_from past) (Some link) (pending past) (unsent_told command s p sound.telling);
+    -- the session is kept on the link, or isn't
+    keeping_owes : (keeping : Bool) (kept : Option ℕ) → keeps (class_of_command command) ≡ keeping → kept_on past ≡ kept
+        → Caused config (after_keeping keeping link kept (links past) ++ []) (Puts (Sends link (Asks command)) ∷ past)
+    keeping_owes true None c k =
+        others_caused config past (Puts (Sends link (Asks command)) ∷ past) link [] refl (sends (keeps_is (class_of_command command) c) k)
+        (record { stands = nothing; later = λ other below apart its. nothing })
+    keeping_owes true (Some kept) c k = nothing
+    keeping_owes false kept c k = nothing
+
+    pub send_sound : goes_on config past ≡ Some link → is_up link past ≡ true → contains link (links past) ≡ true
+        → Sound config (Puts (Sends link (Asks command)) ∷ past)
+    send_sound goes up has = record {
+      sent = sent_there (λ l. is_up l past) command (pending past) link (goes_on config (Puts (Sends link (Asks command)) ∷ past)) (links past) p
+          (goes_then (class_of_command command) link (kept_on past) (routing config past).assigned goes) up has;
+      telling = λ n soon. told_sent (told past) (told_from past) (Some link) (pending past) (unsent_told command s p telling_now);
       asks = still_asked refl refl refl sound.asks;
-      waits = λ other e a. now_awaited other e (link == other) refl a;
-      owes = rw o nothing;
+      waits = λ other e has a. now_awaited other e (link == other) refl has a;
+      owes = rw o (keeping_owes (keeps (class_of_command command)) (kept_on past) refl refl);
     }
 
   -- The client's next command is taken up
@@ -315,59 +500,61 @@ module _ (config : Config) (past : List Item) (sound : Sound config past) where
     now_asked requests.FieldList r f = λ command e.
         subst (λ (its : Command). IsAsked config its (Takes (it requests.FieldList) number ∷ past)) (same_some _ command e)
         (record { asked = here (took_it requests.FieldList r f) (ap it r); counts = refl })
+    now_asked requests.InitDb r f = λ command e.
+        subst (λ (its : Command). IsAsked config its (Takes (it requests.InitDb) number ∷ past)) (same_some _ command e)
+        (record { asked = here (took_it requests.InitDb r f) (ap it r); counts = refl })
     now_asked requests.Quit r f = λ command e. absurd cc
     now_asked requests.Ping r f = λ command e. absurd cc
     now_asked requests.Unsupported r f = λ command e. absurd cc
     now_asked requests.Unknown r f = λ command e. absurd cc
 
-    pub take_sound : Links (Takes (judged payload number) number ∷ past)
-        → begins_with config (fronted config past) 0 ≡ Whole payload number rest
+    pub take_sound : begins_with config (fronted config past) 0 ≡ Whole payload number rest
         → Sound config (Takes (judged payload number) number ∷ past)
-    take_sound one_link f = record {
-      one_link = one_link;
+    take_sound f = record {
       sent = λ other e. absurd cc;
-      telling = none_told;
+      telling = λ n soon. none_told;
       asks = now_asked (request_of payload) refl f;
-      waits = waits_none (pending (Takes (judged payload number) number ∷ past)) None [] (owed (Takes (judged payload number) number ∷ past)) p sound.waits;
+      waits = waits_none (links past) (pending (Takes (judged payload number) number ∷ past)) None [] (owed config (Takes (judged payload number) number ∷ past)) p sound.waits;
       owes = command_caused config payload number (Takes (judged payload number) number ∷ past) (request_of payload) refl (took p c f);
     }
 
   -- A payload of an awaited reply
 
   -- what the client was told where nothing is owed to it
-  pub clean : owed past ≡ [] → (e : Exchange) (its : Command)
-      → client_reply its.kind prepared_handle e.sofar ≡ told past ++ passed (owed past)
+  pub clean : owed config past ≡ [] → (e : Exchange) (its : Command)
+      → client_reply its.kind prepared_handle e.sofar ≡ told past ++ passed (owed config past)
       → client_reply its.kind prepared_handle e.sofar ≡ told past
   clean o e its formed =
       formed ∙ ap (λ (list : List Put). told past ++ passed list) o ∙ append-nil (told past)
 
-  module _ (link : ℕ) (e : Exchange) (command : Command) (payload rest : Payload) (number : ℕ) (o : owed past ≡ [])
+  module _ (link : ℕ) (e : Exchange) (command : Command) (payload rest : Payload) (number : ℕ) (o : owed config past ≡ [])
       (next : CameNext config past link e command payload rest number) where
     -- what is awaited once the link said something
     then_awaited : (said : LinkStep) (owes : List Put)
         → ((other : ℕ) (x : Exchange) → link ≡ other → exchange link (Comes link said ∷ past) ≡ Some x
         → AwaitedBy other x (asked_on link past) (pending past) (sent_on past) (told past) owes)
-        → WaitsBy (λ other. exchange other (Comes link said ∷ past)) (λ other. asked_on other past) (λ other. is_up other (Comes link said ∷ past))
+        → WaitsBy (links past) (λ other. exchange other (Comes link said ∷ past)) (λ other. asked_on other past) (λ other. is_up other (Comes link said ∷ past))
         (pending past) (sent_on past) (told past) owes
-    then_awaited said owes mine = λ other x a. by_link other x (link == other) refl a
+    then_awaited said owes mine = λ other x has a. by_link other x (link == other) refl has a
       where
         only_prepares : (other : ℕ) (x : Exchange) → (link == other) ≡ false
-            → WaitsOn other x (asked_on other past) (is_up other past) (pending past) (sent_on past) (told past) (owed past)
+            → WaitsOn other x (asked_on other past) (is_up other past) (pending past) (sent_on past) (told past) (owed config past)
             → WaitsOn other x (asked_on other past) (is_up other past) (pending past) (sent_on past) (told past) owes
         only_prepares other x t (prepares p u) = prepares p u
+        only_prepares other x t (repeats p) = repeats p
         only_prepares other x t (replies awaits) =
             let same : link ≡ other = same_some link other (sym next.sent ∙ awaits.sent_there) in
             let yes : (link == other) ≡ true = eq-eqb link other same in absurd cc
 
-        by_link : (other : ℕ) (x : Exchange) (same : Bool) → (link == other) ≡ same → exchange other (Comes link said ∷ past) ≡ Some x
+        by_link : (other : ℕ) (x : Exchange) (same : Bool) → (link == other) ≡ same → contains other (links past) ≡ true → exchange other (Comes link said ∷ past) ≡ Some x
             → WaitsOn other x (asked_on other past) (is_up other (Comes link said ∷ past)) (pending past) (sent_on past) (told past) owes
-        by_link other x true t a =
+        by_link other x true t has a =
             let same : link ≡ other = eqb-true link other t in
             replies (subst (λ (l : ℕ). AwaitedBy other x (asked_on l past) (pending past) (sent_on past) (told past) owes) same
             (mine other x same (subst (λ (l : ℕ). exchange l (Comes link said ∷ past) ≡ Some x) (sym same) a)))
-        by_link other x false t a =
+        by_link other x false t has a =
             let a : exchange other past ≡ Some x = rw t at a in
-            rw t (only_prepares other x t (sound.waits other x a))
+            rw t (only_prepares other x t (sound.waits other x has a))
 
     -- a payload came
     module _ (its : Role) (far : Progress) (r : role e.kind e.sofar payload ≡ Some its) (p : progress e.kind e.sofar payload ≡ Some far) where
@@ -378,7 +565,7 @@ module _ (config : Config) (past : List Item) (sound : Sound config past) where
       its_form = form config past link e command payload rest number next its far r p
 
       abbrev answer : Progress → List Put
-      answer far = after_answer link command its_form far (is_some_byte rest) (reply_number past)
+      answer far = after_answer link command its_form far (is_some_byte rest) (reply_number past) (λ outcome. recording_of config past outcome)
 
       goes_awaited : (its_far : Progress) (other : ℕ) (x : Exchange) → link ≡ other
           → left_by its_far (with_part payload number e) ≡ Some x
@@ -396,15 +583,14 @@ module _ (config : Config) (past : List Item) (sound : Sound config past) where
           }
       goes_awaited (Ends outcome) other x same g = absurd cc
 
-      pub reply_sound : Links (Comes link its_said ∷ past) → Sound config (Comes link its_said ∷ past)
-      reply_sound one_link =
-          let owed_now : owed (Comes link its_said ∷ past) ≡ answer far = rw next.asked_it refl in
+      pub reply_sound : Sound config (Comes link its_said ∷ past)
+      reply_sound =
+          let owed_now : owed config (Comes link its_said ∷ past) ≡ answer far = rw next.asked_it refl in
           record {
-            one_link = one_link;
-            sent = coming_sent past link its_said sound.sent;
-            telling = sound.telling;
+            sent = coming_sent config past link its_said sound.sent;
+            telling = λ n soon. sound.telling n (not_soon o);
             asks = still_asked refl refl refl sound.asks;
-            waits = subst (λ (list : List Put). WaitsBy (λ other. exchange other (Comes link its_said ∷ past)) (λ other. asked_on other past) (λ other. is_up other (Comes link its_said ∷ past)) (pending past) (sent_on past) (told past) list)
+            waits = subst (λ (list : List Put). WaitsBy (links past) (λ other. exchange other (Comes link its_said ∷ past)) (λ other. asked_on other past) (λ other. is_up other (Comes link its_said ∷ past)) (pending past) (sent_on past) (told past) list)
                 (sym owed_now)
                 (then_awaited its_said (answer far)
                 (λ other x same a. goes_awaited far other x same (sym (owes_then config past link e command payload rest number next its far r p) ∙ a)));

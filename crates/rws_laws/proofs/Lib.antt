@@ -5,21 +5,31 @@ pub mod HandshakeLemmas
 pub mod AskedLemmas
 pub mod EnteringLemmas
 -- what a legal record keeps true
+pub mod ListLemmas
 pub mod Sound
 pub mod LinksLemmas
 pub mod CameLemmas
 pub mod LostLemmas
 pub mod ReplyLemmas
+pub mod RoutedLemmas
 pub mod OwedLemmas
 pub mod GivenLemmas
 pub mod SoundLemmas
 pub mod WantedLemmas
 -- the law on causes
 pub mod PreparedLemmas
+pub mod HistoryLemmas
 pub mod CausesLemmas
 -- the law on what a client has where a reply ended
 pub mod BytesLemmas
 pub mod WholeLemmas
+-- the law on what has set a session on its links
+pub mod SharedLemmas
+-- the laws on where a command goes
+pub mod OnceLemmas
+pub mod GoingLemmas
+pub mod AimedLemmas
+pub mod HiddenLemmas
 -- the law on what a session that rests has answered
 pub mod EndedLemmas
 pub mod UpLemmas

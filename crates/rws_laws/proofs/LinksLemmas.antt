@@ -1,127 +1,155 @@
--- A step of a legal record keeps what is known of its links.
-use Rattle.std.proofs.Common.{◌≡◌, ℕ, Bool, true, false, List, [], ◌∷◌, ◌++◌, drop, refl, sym, ap, ◌∙◌, inl, inr, Some}
-use Rattle.std.specs.Prelude.{◌⊎◌, ◌==◌, Contains}
-use Rattle.std.proofs.lemmas.Bool.{eq-eqb}
-use Rattle.rws_wire.specs.declared.close_reason.CloseReason.{CloseReason}
-use Rattle.rws_wire.specs.declared.close_reason.CloseReason.TheVariants as reasons
+-- Why a link is given up, what its loss leads to, and that the links that aren't needed any more are given up one after the other.
+use Rattle.std.proofs.Common.{◌≡◌, ℕ, Bool, true, false, List, [], ◌∷◌, ◌++◌, map, drop, refl, sym, ap, subst, ◌∙◌, Some}
+use Rattle.std.specs.Prelude.{◌≢◌, ◌==◌, Contains, if◌then◌else◌}
+use Rattle.std.proofs.lemmas.Bool.{eq-eqb, eqb-true}
 use Rattle.rws_wire.specs.declared.drop_cause.DropCause.{DropCause}
-use Rattle.rws_wire.specs.declared.drop_cause.DropCause.TheVariants.{BadWire, BadReply, Unasked, Greeting, Plugin, Login as LoginFails, End}
-use Rattle.rws_native.specs.declared.login.Login.{Login}
+use Rattle.rws_wire.specs.declared.drop_cause.DropCause.TheVariants.{BadWire, BadReply, Unasked, Greeting, Plugin, Login as LoginFails, End, Kept, SessionDiffers}
 use Rattle.rws_config.specs.declared.config.Config.{Config}
 use Rattle.rws_record.specs.Item.{Item, Put}
-use Rattle.rws_record.specs.Item.Item.{ClientBytes, LinkReady, LinkBytes, ClientGone, LinkLost, Puts}
-use Rattle.rws_record.specs.Item.Put.{Opens, Drops, Closes}
-use Rattle.rws_record.specs.Values.{links, kept_on, pending, sent_on, told_from, is_over, without}
-use Rattle.rws_record.specs.Rules.{after_loss, after_loss_by, assigned_by, loss_by, is_link, is_loss, owed}
-use Rattle.rws_record.specs.Record.{IsInput}
-use Rattle.rws_record.proofs.StepLemmas.{Due}
-use Rattle.rws_record.proofs.StepLemmas.Due.{comes, connects, takes}
-use Rattle.rws_laws.specs.Servers.{lost}
-use Rattle.rws_laws.specs.Causes.{IsCaused}
-use Rattle.rws_laws.proofs.Sound.{Links, kept_there, links_keep}
-use Rattle.rws_laws.proofs.Sound.Links.{none_yet, has_one, is_over_now, closes_now}
+use Rattle.rws_record.specs.Item.Item.{Puts}
+use Rattle.rws_record.specs.Item.Put.{Drops}
+use Rattle.rws_record.specs.Values.{autocommit, contains, goes_on, kept_on, links, pending, sent_on, told_from, is_over, without}
+use Rattle.rws_record.specs.Rules.{after_loss, after_loss_by, again_by, farewells, goes_if, loss_by, is_link, is_loss, owed}
+use Rattle.rws_record.proofs.WantLemmas.{closes_soon}
+use Rattle.rws_record.proofs.WithoutLemmas.{without_has_less}
+use Rattle.rws_record.proofs.RecordLemmas.{contained}
+use Rattle.rws_laws.specs.Servers.{Lost}
+use Rattle.rws_laws.specs.Servers.Lost.{given_up}
+use Rattle.rws_laws.specs.Causes.{IsCaused, JustKept}
+use Rattle.rws_laws.specs.Causes.JustKept.{gives_up}
+use Rattle.rws_laws.proofs.ListLemmas.{Distinct, distinct_links, distinct_without, other_stays, stays_other, without_first}
+use Rattle.rws_laws.proofs.Sound.{Caused}
+use Rattle.rws_laws.proofs.Sound.Caused.{nothing, leaves}
 
--- one link fewer
-alone : (link other : ℕ) (same : Bool) → (link == other) ≡ same
-    → (without other (link ∷ []) ≡ link ∷ []) ⊎ (without other (link ∷ []) ≡ [])
-alone link other true e = rw e (inr refl)
-alone link other false e = rw e (inl refl)
-
--- a record whose links are those of the one below it without one
-loses : {past : List Item} (other : ℕ) (item : Item) → links (item ∷ past) ≡ without other (links past)
-    → kept_on (item ∷ past) ≡ kept_on past
-    → (links (item ∷ past) ≡ [] → Links (item ∷ past)) → Links past → Links (item ∷ past)
-loses other item l k none (none_yet e kept) = none_yet (l ∙ ap (without other) e) (k ∙ kept)
-loses other item l k none (has_one link e kept) =
-    elim (alone link other (link == other) refl) [
-      | inl stays ↦ has_one link (l ∙ ap (without other) e ∙ stays) (k ∙ kept)
-      | inr goes ↦ none (l ∙ ap (without other) e ∙ goes)
-    ]
-loses other item l k none (is_over_now e over) = none (l ∙ ap (without other) e)
-loses other item l k none (closes_now e reason owes) = none (l ∙ ap (without other) e)
-
--- the loss of the link that a session is kept on closes it
-closes_by : (told assigned kept : Bool) → kept ≡ true
-    → (reason : CloseReason) × (after_loss_by (loss_by told assigned false kept false false assigned) ≡ Closes reason ∷ [])
-closes_by true assigned kept k = (reasons.ResultCut, refl)
-closes_by false true kept k = (reasons.OutcomeUnknown, refl)
-closes_by false false true k = (reasons.SessionState, refl)
-closes_by false false false k = absurd cc
-
-pub loss_closes : (past : List Item) (link : ℕ) → kept_on past ≡ Some link
-    → (reason : CloseReason) × (after_loss link past ≡ Closes reason ∷ [])
-loss_closes past link k =
-    closes_by (is_link link (told_from past)) (is_link link (assigned_by (pending past) (sent_on past) (kept_on past))) (is_link link (kept_on past))
-    (rw k (eq-eqb link link refl))
-
--- A link is given up for a fault, or since the session is over.
-pub data Dropped (past : List Item) (link : ℕ) : DropCause → Type 0 where
-  for_fault : {cause : DropCause} → is_loss cause ≡ true → lost (Puts (Drops link cause) ∷ past) ≡ Some link → Contains (links past) link
-      → Dropped past link cause
-  at_end : is_over past ≡ true → Dropped past link End
+-- A link is given up for a fault, or since the session is over, or since it is kept on another.
+pub data Dropped (config : Config) (past : List Item) (link : ℕ) : DropCause → Type 0 where
+  for_fault : {cause : DropCause} → is_loss cause ≡ true → Lost link past (Puts (Drops link cause) ∷ past) → Contains (links past) link
+      → Dropped config past link cause
+  at_end : is_over past ≡ true → Dropped config past link End
+  since_kept : (kept : ℕ) → JustKept config kept past → kept ≢ link → Dropped config past link Kept
 
 pub dropped : (config : Config) (past : List Item) (link : ℕ) (cause : DropCause) → IsCaused config (Drops link cause) past
-    → Dropped past link cause
-dropped config past link BadWire caused = for_fault refl refl caused.2
-dropped config past link BadReply caused = for_fault refl refl caused.1
-dropped config past link Unasked caused = for_fault refl refl caused.1
-dropped config past link Greeting caused = for_fault refl refl caused.1
-dropped config past link Plugin caused = for_fault refl refl caused.1
-dropped config past link (LoginFails code) caused = for_fault refl refl caused.1
+    → Dropped config past link cause
+dropped config past link BadWire caused = for_fault refl (given_up refl) caused.2
+dropped config past link BadReply caused = for_fault refl (given_up refl) caused.1
+dropped config past link Unasked caused = for_fault refl (given_up refl) caused.1
+dropped config past link Greeting caused = for_fault refl (given_up refl) caused.1
+dropped config past link Plugin caused = for_fault refl (given_up refl) caused.1
+dropped config past link (LoginFails code) caused = for_fault refl (given_up refl) caused.1
+dropped config past link SessionDiffers caused = for_fault refl (given_up refl) caused.1
 dropped config past link End caused = at_end caused.0
+dropped config past link Kept caused = since_kept caused.0 caused.1 caused.2
 dropped config past link _ caused = absurd caused
 
--- to give up a link for a fault is followed by a close alone
-links_fault : {past : List Item} (link : ℕ) (cause : DropCause) → is_loss cause ≡ true → drop 1 (owed past) ≡ []
-    → kept_on past ≡ Some link → Links past → Links (Puts (Drops link cause) ∷ past)
-links_fault {past} link cause lossy d at one_link =
-    let closes = loss_closes past link at in
-    let o : owed (Puts (Drops link cause) ∷ past) ≡ after_loss link past ++ drop 1 (owed past) = rw lossy refl in
-    loses link (Puts (Drops link cause)) refl refl
-    (λ e. closes_now e closes.0 (o ∙ ap (λ (list : List Put). list ++ drop 1 (owed past)) closes.1 ∙ ap (λ (list : List Put). Closes closes.0 ∷ list) d))
-    one_link
+-- The loss of a link closes the session where a reply is cut, and where it is kept there
 
-pub links_drop : {past : List Item} {link : ℕ} {cause : DropCause} → Dropped past link cause → drop 1 (owed past) ≡ [] → Links past
-    → Links (Puts (Drops link cause) ∷ past)
-links_drop {link = link} {cause = cause} (for_fault lossy is has) d one_link = links_fault link cause lossy d (kept_there one_link link has) one_link
-links_drop {link = link} (at_end over) d one_link = loses link (Puts (Drops link End)) refl refl (λ e. is_over_now e over) one_link
+cut_by : (told sent again kept assigned : Bool) → told ≡ true
+    → closes_soon (after_loss_by (loss_by told sent again kept false false assigned)) ≡ true
+cut_by true sent again kept assigned t = refl
+cut_by false sent again kept assigned t = absurd cc
 
--- a list doesn't begin with a close
-abbrev pub is_no_close : List Put → Bool
-is_no_close (Closes reason ∷ others) = false
-is_no_close _ = true
+kept_by : (told sent again kept assigned : Bool) → kept ≡ true
+    → closes_soon (after_loss_by (loss_by told sent again kept false false assigned)) ≡ true
+kept_by true sent again kept assigned k = refl
+kept_by false true false kept assigned k = refl
+kept_by false true true true assigned k = refl
+kept_by false false again true assigned k = refl
+kept_by false true true false assigned k = absurd cc
+kept_by false false again false assigned k = absurd cc
 
--- something is given out that changes none of it
-pub links_stay : {past : List Item} (put : Put) {others : List Put} → owed past ≡ put ∷ others → is_no_close (put ∷ others) ≡ true
-    → links (Puts put ∷ past) ≡ links past → kept_on (Puts put ∷ past) ≡ kept_on past
-    → is_over (Puts put ∷ past) ≡ is_over past → Links past → Links (Puts put ∷ past)
-links_stay put o c l k n (none_yet e kept) = none_yet (l ∙ e) (k ∙ kept)
-links_stay put o c l k n (has_one link e kept) = has_one link (l ∙ e) (k ∙ kept)
-links_stay put o c l k n (is_over_now e over) = is_over_now (l ∙ e) (n ∙ over)
-links_stay put o c l k n (closes_now e reason owes) =
-    absurd (let e : true ≡ false = sym c ∙ ap is_no_close (sym o ∙ owes) in cc)
+pub cut_closes : (config : Config) (past : List Item) (link : ℕ) → told_from past ≡ Some link → closes_soon (after_loss config link past) ≡ true
+cut_closes config past link from =
+    cut_by (is_link link (told_from past)) (is_link link (sent_on past)) (again_by (pending past) (autocommit config past))
+    (is_link link (kept_on past)) (is_link link (goes_if (pending past) (goes_on config past)))
+    (ap (is_link link) from ∙ eq-eqb link link refl)
 
-pub links_close : {past : List Item} (reason : CloseReason) → Links past → Links (Puts (Closes reason) ∷ past)
-links_close reason (none_yet e k) = none_yet e k
-links_close reason (has_one one e k) = has_one one e k
-links_close reason (is_over_now e over) = is_over_now e refl
-links_close reason (closes_now e other owes) = is_over_now e refl
+pub kept_closes : (config : Config) (past : List Item) (link : ℕ) → kept_on past ≡ Some link → closes_soon (after_loss config link past) ≡ true
+kept_closes config past link kept =
+    kept_by (is_link link (told_from past)) (is_link link (sent_on past)) (again_by (pending past) (autocommit config past))
+    (is_link link (kept_on past)) (is_link link (goes_if (pending past) (goes_on config past)))
+    (ap (is_link link) kept ∙ eq-eqb link link refl)
 
--- a link is opened where the session never had one
-pub links_open : {past : List Item} (link server : ℕ) (login : Login) → links past ≡ [] → Links (Puts (Opens link server login) ∷ past)
-links_open link server login e = has_one link (rw e refl) refl
+-- Links that are given up one after the other
 
-pub links_due : {config : Config} {past : List Item} {item : Item} → owed past ≡ [] → Due config past item → Links past → Links (item ∷ past)
-links_due {item = item} o (comes has a it) one_link = links_keep item o refl refl (λ is. is) one_link
-links_due {item = item} o (connects p f c) one_link = links_keep item o refl refl (λ is. is) one_link
-links_due {item = item} o (takes p f) one_link = links_keep item o refl refl (λ is. is) one_link
+has_first : (now : List Item) (link : ℕ) (others : List ℕ) → links now ≡ link ∷ others → Contains (links now) link
+has_first now link others l =
+    let itself : (link == link) ≡ true = eq-eqb link link refl in
+    let first : contains link (link ∷ others) ≡ true = rw itself refl in contained link (links now) (ap (contains link) l ∙ first)
 
-pub links_input : (past : List Item) (item : Item) → owed past ≡ [] → IsInput item past → Links past → Links (item ∷ past)
-links_input past (ClientBytes bytes) o input one_link = links_keep (ClientBytes bytes) o refl refl (λ is. is) one_link
-links_input past (LinkReady link) o input one_link = links_keep (LinkReady link) o refl refl (λ is. is) one_link
-links_input past (LinkBytes from bytes) o input one_link = links_keep (LinkBytes from bytes) o refl refl (λ is. is) one_link
-links_input past ClientGone o input one_link = links_keep ClientGone o refl refl (λ is. refl) one_link
-links_input past (LinkLost gone) o input one_link =
-    let closes = loss_closes past gone (kept_there one_link gone input) in
-    loses gone (LinkLost gone) refl refl (λ none. closes_now none closes.0 closes.1) one_link
-links_input past _ o input one_link = absurd input
+bye : (config : Config) (now : List Item) (list : List ℕ) → links now ≡ list → Distinct list → is_over now ≡ true
+    → Caused config (map (λ link. Drops link End) list) now
+bye config now [] l d over = nothing
+bye config now (link ∷ others) l d over =
+    leaves refl (over, has_first now link others l)
+    (bye config (Puts (Drops link End) ∷ now) others (ap (without link) l ∙ without_first link others d.0) d.1 over)
+
+-- a session that is over gives up those that it has
+pub farewells_caused : (config : Config) (past now : List Item) → links now ≡ links past → is_over now ≡ true
+    → Caused config (map (λ link. Drops link End) (links past)) now
+farewells_caused config past now l over = bye config now (links past) l (distinct_links past) over
+
+-- of such a session the first thing that is owed gives up a link, and what is owed then gives up those that are left
+pub farewell_first : (config : Config) (past : List Item) (put : Put) (others : List Put) → owed config past ≡ put ∷ others
+    → owed config past ≡ farewells past
+    → (link : ℕ) × (put ≡ Drops link End) × Contains (links past) link × (owed config (Puts put ∷ past) ≡ farewells (Puts put ∷ past))
+farewell_first config past put others o owes = by_links (links past) refl (distinct_links past)
+  where
+    by_links : (list : List ℕ) → links past ≡ list → Distinct list
+        → (link : ℕ) × (put ≡ Drops link End) × Contains (links past) link × (owed config (Puts put ∷ past) ≡ farewells (Puts put ∷ past))
+    by_links [] l d =
+        let clash : put ∷ others ≡ [] = sym o ∙ owes ∙ ap (map (λ link. Drops link End)) l in absurd cc
+    by_links (link ∷ rest) l d =
+        let both : put ∷ others ≡ Drops link End ∷ map (λ other. Drops other End) rest =
+        sym o ∙ owes ∙ ap (map (λ other. Drops other End)) l in
+        let is : put ≡ Drops link End = cc in
+        let behind : others ≡ map (λ other. Drops other End) rest = cc in (
+          link,
+          is,
+          has_first past link rest l,
+          subst (λ (p : Put). owed config (Puts p ∷ past) ≡ farewells (Puts p ∷ past)) (sym is)
+              (ap (drop 1) o ∙ behind ∙ ap (map (λ other. Drops other End)) (sym (ap (without link) l ∙ without_first link rest d.0))),
+        )
+
+-- what is owed behind them has its cause also when one of them is given up
+pub record StaysCaused (config : Config) (kept : ℕ) (more : List Put) (now : List Item) : Type 0 where
+  pub stands : Caused config more now
+  pub later : (other : ℕ) (past : List Item) → (kept == other) ≡ false → Caused config more past → Caused config more (Puts (Drops other Kept) ∷ past)
+
+others_go : (config : Config) (kept : ℕ) (more : List Put) (now : List Item) (list : List ℕ) → Distinct list
+    → ((link : ℕ) → contains link list ≡ true → (contains link (links now) ≡ true) × ((link == kept) ≡ false)) → JustKept config kept now
+    → StaysCaused config kept more now → Caused config (map (λ link. Drops link Kept) list ++ more) now
+others_go config kept more now [] d has just stays = stays.stands
+others_go config kept more now (link ∷ others) d has just stays =
+    let itself : (link == link) ≡ true = eq-eqb link link refl in
+    let first : contains link (link ∷ others) ≡ true = rw itself refl in
+    let there = has link first in
+    leaves refl
+    (kept, just, (λ same. let yes : (link == kept) ≡ true = eq-eqb link kept (sym same) in absurd cc), contained link (links now) there.0)
+    (others_go config kept more (Puts (Drops link Kept) ∷ now) others d.1
+    (λ other at.
+    let all = has other (behind other (link == other) at) in
+    (other_stays link other (links now) (apart other at) all.0, all.1)) (gives_up just)
+    (record { stands = stays.later link now (elsewhere (kept == link) refl there.1) stays.stands; later = stays.later }))
+  where
+    elsewhere : (test : Bool) → (kept == link) ≡ test → (link == kept) ≡ false → (kept == link) ≡ false
+    elsewhere true t n = let yes : (link == kept) ≡ true = eq-eqb link kept (sym (eqb-true kept link t)) in absurd cc
+    elsewhere false t n = t
+
+    behind : (other : ℕ) (test : Bool) → contains other others ≡ true → (if test then true else contains other others) ≡ true
+    behind other true at = refl
+    behind other false at = at
+
+    apart : (other : ℕ) → contains other others ≡ true → (other == link) ≡ false
+    apart other at = by_test (other == link) refl
+      where
+        by_test : (test : Bool) → (other == link) ≡ test → (other == link) ≡ false
+        by_test true t =
+            let none : contains other others ≡ false = ap (λ (l : ℕ). contains l others) (eqb-true other link t) ∙ d.0 in absurd cc
+        by_test false t = t
+
+-- one that is kept on a link gives up the others
+pub others_caused : (config : Config) (past now : List Item) (link : ℕ) (more : List Put) → links now ≡ links past → JustKept config link now
+    → StaysCaused config link more now → Caused config (map (λ other. Drops other Kept) (without link (links past)) ++ more) now
+others_caused config past now link more l just stays =
+    others_go config link more now (without link (links past)) (distinct_without link (links past) (distinct_links past))
+    (λ other at. (ap (contains other) l ∙ without_has_less link other (links past) at, stays_other link other (links past) at)) just stays

@@ -1,5 +1,5 @@
 -- Why a link is lost: of a session that goes on and owes nothing it is since a byte came that nobody awaited.
-use Rattle.std.proofs.Common.{◌≡◌, ℕ, Bool, true, false, List, [], ◌∷◌, ◌++◌, refl, sym, ap, subst, ◌∙◌, inl, inr, Option, Some, None, eqb-true}
+use Rattle.std.proofs.Common.{◌≡◌, ℕ, Bool, true, false, List, [], ◌∷◌, refl, sym, ap, subst, ◌∙◌, inl, inr, Option, Some, None, eqb-true}
 use Rattle.std.specs.Prelude.{◌⊎◌, ◌==◌, if◌then◌else◌}
 use Rattle.rws_wire.specs.Payloads.{Beginning, first_payload}
 use Rattle.rws_wire.specs.Payloads.Beginning.{Nothing, Whole, Faulty}
@@ -23,9 +23,9 @@ use Rattle.rws_link.specs.declared.step.LinkStep.{LinkStep}
 use Rattle.rws_link.specs.declared.step.LinkStep.TheVariants as steps
 use Rattle.rws_link.specs.Stepping.{LinkState, LogsIn, Rests, Awaits, IsLost, Exchange, behind_part, fed, is_new, logged_in, opened as opening, reacted, readied, read_by, replied, replied_by, sent, settled, step, with_part}
 use Rattle.rws_record.specs.Item.{Item, Purpose, Put}
-use Rattle.rws_record.specs.Item.Item.{Accepted, TurnsAway, Began, ClientBytes, LinkReady, LinkBytes, ClientGone, LinkLost, Routed, Comes, Connects, Takes, Floods, Puts, Starves}
+use Rattle.rws_record.specs.Item.Item.{Accepted, TurnsAway, Began, ClientBytes, LinkReady, LinkBytes, ClientGone, LinkLost, Ticks, Routed, Comes, Connects, Takes, Floods, Puts, Starves}
 use Rattle.rws_record.specs.Item.Put.{Hands, Tells, Routes, Opens, LogsInto, Sends, Drops, Closes}
-use Rattle.rws_record.specs.Item.Purpose.{Prepares, Asks}
+use Rattle.rws_record.specs.Item.Purpose.{Prepares, Asks, Plays}
 use Rattle.rws_record.specs.Values.{awaited, contains, is_starved, kind_of, link_held, linked, links, sent_for, unread, without}
 use Rattle.rws_record.specs.Rules.{drop_cause, owed}
 use Rattle.rws_record.specs.Record.{IsBeginning, IsRecord, IsInput}
@@ -34,12 +34,13 @@ use Rattle.rws_record.proofs.LinkedLemmas.{Says, after_loss_is, after_part_is}
 use Rattle.rws_record.proofs.LinkedLemmas.Says.{answers, enters, hurries, fails, breaks, part, garbled, wrong, again}
 use Rattle.rws_record.proofs.StepLemmas.{Due, Step, of_next, rests_owing_nothing}
 use Rattle.rws_record.proofs.StepLemmas.Due.{comes, connects, takes}
-use Rattle.rws_record.proofs.StepLemmas.Step.{pays, asks, prepares, sends, floods, reads}
+use Rattle.rws_record.proofs.StepLemmas.Step.{pays, asks, prepares, plays, sends, floods, reads}
 use Rattle.rws_record.proofs.WantLemmas.{input_starved, step_starved}
 use Rattle.rws_record.proofs.WithoutLemmas.{without_has_not, without_keeps_out}
 use Rattle.rws_laws.specs.Servers.{LoginCame, LoginFailed, WasUnasked}
 use Rattle.rws_laws.specs.Servers.LoginFailed.{no_greeting, not_served, error_came, other_plugin, no_answer, bad_question}
 use Rattle.rws_laws.specs.Servers.WasUnasked.{resting, behind_login, behind_reply, earlier}
+use Rattle.rws_laws.proofs.ListLemmas.{no_more}
 use Rattle.rws_laws.proofs.CameLemmas.{after_answer_is, after_entering_is}
 use Rattle.rws_laws.proofs.HandshakeLemmas.{fails_so, takes_so}
 use Rattle.rws_record.proofs.OpeningLemmas.{asks_owing_nothing}
@@ -142,10 +143,10 @@ readied_lost (IsLost other) cause now = now
 
 pub was_unasked : (link : ℕ) (past : List Item) → linked link past ≡ IsLost Unasked → WasUnasked link past
 was_unasked link [] now = absurd cc
-was_unasked link (Began opened server ∷ past) now = by_test (opened == link) now (was_unasked link past)
+was_unasked link (Began opened server reading ∷ past) now = by_test (opened == link) now (was_unasked link past)
   where
     by_test : (test : Bool) → (if test then Rests else linked link past) ≡ IsLost Unasked
-        → (linked link past ≡ IsLost Unasked → WasUnasked link past) → WasUnasked link (Began opened server ∷ past)
+        → (linked link past ≡ IsLost Unasked → WasUnasked link past) → WasUnasked link (Began opened server reading ∷ past)
     by_test true now below = absurd cc
     by_test false now below = earlier (below now)
 was_unasked link (LinkBytes from bytes ∷ past) now = by_test (from == link) refl now (was_unasked link past)
@@ -183,16 +184,17 @@ was_unasked link (Puts (Opens opened server login) ∷ past) now = by_test (open
         → (linked link past ≡ IsLost Unasked → WasUnasked link past) → WasUnasked link (Puts (Opens opened server login) ∷ past)
     by_test true now below = absurd cc
     by_test false now below = earlier (below now)
-was_unasked link (Accepted session scramble ∷ past) now = earlier (was_unasked link past now)
+was_unasked link (Accepted session scramble reading ∷ past) now = earlier (was_unasked link past now)
 was_unasked link (TurnsAway told ∷ past) now = earlier (was_unasked link past now)
-was_unasked link (Routed its server ∷ past) now = earlier (was_unasked link past now)
+was_unasked link (Routed words loads next found ∷ past) now = earlier (was_unasked link past now)
 was_unasked link (Connects said ∷ past) now = earlier (was_unasked link past now)
 was_unasked link (Puts (Hands packets) ∷ past) now = earlier (was_unasked link past now)
-was_unasked link (Puts (Routes login) ∷ past) now = earlier (was_unasked link past now)
+was_unasked link (Puts Routes ∷ past) now = earlier (was_unasked link past now)
 was_unasked link (Puts (LogsInto to packets) ∷ past) now = earlier (was_unasked link past now)
 was_unasked link (ClientBytes bytes ∷ past) now = earlier (was_unasked link past now)
 was_unasked link (ClientGone ∷ past) now = earlier (was_unasked link past now)
 was_unasked link (LinkLost gone ∷ past) now = earlier (was_unasked link past now)
+was_unasked link (Ticks reading ∷ past) now = earlier (was_unasked link past now)
 was_unasked link (Takes judged number ∷ past) now = earlier (was_unasked link past now)
 was_unasked link (Floods bytes ∷ past) now = earlier (was_unasked link past now)
 was_unasked link (Starves made number ∷ past) now = earlier (was_unasked link past now)
@@ -203,18 +205,18 @@ was_unasked link (Puts (Closes reason) ∷ past) now = earlier (was_unasked link
 -- Whoever fails otherwise is given up at once
 
 -- a link is lost for this: for a byte that nobody awaited, or the session has it no more, or is about to give it up
-data Losing (link : ℕ) (cause : LinkCause) (past : List Item) : Type 0 where
-  unasked : cause ≡ Unasked → Losing link cause past
-  gone : contains link (links past) ≡ false → Losing link cause past
-  soon : owed past ≡ Drops link (drop_cause cause) ∷ [] → Losing link cause past
+data Losing (config : Config) (link : ℕ) (cause : LinkCause) (past : List Item) : Type 0 where
+  unasked : cause ≡ Unasked → Losing config link cause past
+  gone : contains link (links past) ≡ false → Losing config link cause past
+  soon : owed config past ≡ Drops link (drop_cause cause) ∷ [] → Losing config link cause past
 
-abbrev AllLosing : List Item → Type 0
-AllLosing past = (link : ℕ) (cause : LinkCause) → linked link past ≡ IsLost cause → Losing link cause past
+abbrev AllLosing : Config → List Item → Type 0
+AllLosing config past = (link : ℕ) (cause : LinkCause) → linked link past ≡ IsLost cause → Losing config link cause past
 
 -- an item that leaves the link as it was, where nothing was owed
-still : {past : List Item} {item : Item} {link : ℕ} {cause : LinkCause} → owed past ≡ []
-    → (contains link (links past) ≡ false → contains link (links (item ∷ past)) ≡ false) → Losing link cause past
-    → Losing link cause (item ∷ past)
+still : {config : Config} {past : List Item} {item : Item} {link : ℕ} {cause : LinkCause} → owed config past ≡ []
+    → (contains link (links past) ≡ false → contains link (links (item ∷ past)) ≡ false) → Losing config link cause past
+    → Losing config link cause (item ∷ past)
 still o less (unasked is) = unasked is
 still o less (gone is) = gone (less is)
 still o less (soon is) = absurd cc
@@ -249,17 +251,17 @@ said_lost state said cause (wrong f p) now =
     let same : IsLost _ ≡ IsLost cause = sym (after_loss_is state said _ (wrong f p) refl) ∙ now in inr (cc)
 said_lost state said cause again now = inr (cc)
 
-coming_loses : (past : List Item) (from : ℕ) (said : LinkStep) → owed past ≡ [] → Says (linked from past) said → AllLosing past
-    → AllLosing (Comes from said ∷ past)
-coming_loses past from said o it all = λ link cause now. by_test link cause (from == link) refl now
+coming_loses : (config : Config) (past : List Item) (from : ℕ) (said : LinkStep) → owed config past ≡ [] → Says (linked from past) said → AllLosing config past
+    → AllLosing config (Comes from said ∷ past)
+coming_loses config past from said o it all = λ link cause now. by_test link cause (from == link) refl now
   where
     by_said : (link : ℕ) (cause : LinkCause) → from ≡ link → (cause ≡ Unasked) ⊎ (said ≡ steps.Lost cause)
-        → Losing link cause (Comes from said ∷ past)
+        → Losing config link cause (Comes from said ∷ past)
     by_said link cause same (inl is) = unasked is
     by_said link cause same (inr is) = soon (rw is (ap (λ (l : ℕ). Drops l (drop_cause cause) ∷ []) same))
 
     by_test : (link : ℕ) (cause : LinkCause) (test : Bool) → (from == link) ≡ test
-        → (if test then (step (linked link past)).after else linked link past) ≡ IsLost cause → Losing link cause (Comes from said ∷ past)
+        → (if test then (step (linked link past)).after else linked link past) ≡ IsLost cause → Losing config link cause (Comes from said ∷ past)
     by_test link cause true t now =
         let same : from ≡ link = eqb-true from link t in
         by_said link cause same (said_lost (linked link past) said cause (subst (λ (l : ℕ). Says (linked l past) said) same it) now)
@@ -273,160 +275,152 @@ fed_loses past link (byte ∷ rest) cause Rests is now = inl (cc)
 fed_loses past link bytes cause (Awaits e unread) is now = absurd cc
 fed_loses past link bytes cause (IsLost other) is now = inr (is ∙ now)
 
-bytes_lose : (past : List Item) (from : ℕ) (bytes : List ℕ) → owed past ≡ [] → AllLosing past → AllLosing (LinkBytes from bytes ∷ past)
-bytes_lose past from bytes o all = λ link cause now. by_test link cause (from == link) now
+bytes_lose : (config : Config) (past : List Item) (from : ℕ) (bytes : List ℕ) → owed config past ≡ [] → AllLosing config past → AllLosing config (LinkBytes from bytes ∷ past)
+bytes_lose config past from bytes o all = λ link cause now. by_test link cause (from == link) now
   where
     by_cause : (link : ℕ) (cause : LinkCause) → (cause ≡ Unasked) ⊎ (linked link past ≡ IsLost cause)
-        → Losing link cause (LinkBytes from bytes ∷ past)
+        → Losing config link cause (LinkBytes from bytes ∷ past)
     by_cause link cause (inl is) = unasked is
     by_cause link cause (inr is) = still o (λ less. less) (all link cause is)
 
     by_test : (link : ℕ) (cause : LinkCause) (test : Bool)
         → (if test then fed bytes (linked link past) else linked link past) ≡ IsLost cause
-        → Losing link cause (LinkBytes from bytes ∷ past)
+        → Losing config link cause (LinkBytes from bytes ∷ past)
     by_test link cause true now = by_cause link cause (fed_loses past link bytes cause (linked link past) refl now)
     by_test link cause false now = by_cause link cause (inr now)
 
-ready_loses : (past : List Item) (ready : ℕ) → owed past ≡ [] → AllLosing past → AllLosing (LinkReady ready ∷ past)
-ready_loses past ready o all = λ link cause now. by_test link cause (ready == link) now
+ready_loses : (config : Config) (past : List Item) (ready : ℕ) → owed config past ≡ [] → AllLosing config past → AllLosing config (LinkReady ready ∷ past)
+ready_loses config past ready o all = λ link cause now. by_test link cause (ready == link) now
   where
     by_test : (link : ℕ) (cause : LinkCause) (test : Bool) → (if test then readied (linked link past) else linked link past) ≡ IsLost cause
-        → Losing link cause (LinkReady ready ∷ past)
+        → Losing config link cause (LinkReady ready ∷ past)
     by_test link cause true now = still o (λ less. less) (all link cause (readied_lost (linked link past) cause now))
     by_test link cause false now = still o (λ less. less) (all link cause now)
 
-sending_loses : (past : List Item) (to : ℕ) (purpose : Purpose)
-    → ((link : ℕ) (cause : LinkCause) → linked link past ≡ IsLost cause → Losing link cause (Puts (Sends to purpose) ∷ past))
-    → AllLosing (Puts (Sends to purpose) ∷ past)
-sending_loses past to purpose all = λ link cause now. by_test link cause (to == link) now
+sending_loses : (config : Config) (past : List Item) (to : ℕ) (purpose : Purpose)
+    → ((link : ℕ) (cause : LinkCause) → linked link past ≡ IsLost cause → Losing config link cause (Puts (Sends to purpose) ∷ past))
+    → AllLosing config (Puts (Sends to purpose) ∷ past)
+sending_loses config past to purpose all = λ link cause now. by_test link cause (to == link) now
   where
     by_test : (link : ℕ) (cause : LinkCause) (test : Bool)
         → (if test then sent (sent_for purpose) (Some (kind_of purpose)) else linked link past) ≡ IsLost cause
-        → Losing link cause (Puts (Sends to purpose) ∷ past)
+        → Losing config link cause (Puts (Sends to purpose) ∷ past)
     by_test link cause true now = absurd cc
     by_test link cause false now = all link cause now
 
 -- something is given out, but no link given up
-stays : (past : List Item) (put : Put) (link : ℕ) (cause : LinkCause) → (owed past ≡ Drops link (drop_cause cause) ∷ [] → ⊥)
-    → links (Puts put ∷ past) ≡ links past → Losing link cause past → Losing link cause (Puts put ∷ past)
-stays past put link cause other same (unasked is) = unasked is
-stays past put link cause other same (gone is) = gone (rw same is)
-stays past put link cause other same (soon is) = absurd (other is)
+stays : (config : Config) (past : List Item) (put : Put) (link : ℕ) (cause : LinkCause) → (owed config past ≡ Drops link (drop_cause cause) ∷ [] → ⊥)
+    → links (Puts put ∷ past) ≡ links past → Losing config link cause past → Losing config link cause (Puts put ∷ past)
+stays config past put link cause other same (unasked is) = unasked is
+stays config past put link cause other same (gone is) = gone (rw same is)
+stays config past put link cause other same (soon is) = absurd (other is)
 
-given_up : (past : List Item) (other : ℕ) (why : DropCause) (others : List Put) (link : ℕ) (cause : LinkCause)
-    → owed past ≡ Drops other why ∷ others → Losing link cause past → Losing link cause (Puts (Drops other why) ∷ past)
-given_up past other why others link cause o (unasked is) = unasked is
-given_up past other why others link cause o (gone is) = gone (without_keeps_out other link (links past) is)
-given_up past other why others link cause o (soon is) =
+given_up : (config : Config) (past : List Item) (other : ℕ) (why : DropCause) (others : List Put) (link : ℕ) (cause : LinkCause)
+    → owed config past ≡ Drops other why ∷ others → Losing config link cause past → Losing config link cause (Puts (Drops other why) ∷ past)
+given_up config past other why others link cause o (unasked is) = unasked is
+given_up config past other why others link cause o (gone is) = gone (without_keeps_out other link (links past) is)
+given_up config past other why others link cause o (soon is) =
     let same : other ≡ link = cc in gone (rw same (without_has_not link (links past)))
 
--- a link that is opened is another one
-no_more : (link opened : ℕ) (list : List ℕ) → contains link list ≡ false → (opened == link) ≡ false → contains link (list ++ opened ∷ []) ≡ false
-no_more link opened [] none t = rw t refl
-no_more link opened (first ∷ others) none t = by_test (first == link) none (no_more link opened others)
+opening_loses : (config : Config) (past : List Item) (opened server : ℕ) (login : Login) (others : List Put) → owed config past ≡ Opens opened server login ∷ others
+    → AllLosing config past → AllLosing config (Puts (Opens opened server login) ∷ past)
+opening_loses config past opened server login others o all = λ link cause now. by_test link cause (opened == link) refl now
   where
-    by_test : (test : Bool) → (if test then true else contains link others) ≡ false
-        → (contains link others ≡ false → (opened == link) ≡ false → contains link (others ++ opened ∷ []) ≡ false)
-        → (if test then true else contains link (others ++ opened ∷ [])) ≡ false
-    by_test true none behind = absurd cc
-    by_test false none behind = behind none t
-
-opening_loses : (past : List Item) (opened server : ℕ) (login : Login) (others : List Put) → owed past ≡ Opens opened server login ∷ others
-    → AllLosing past → AllLosing (Puts (Opens opened server login) ∷ past)
-opening_loses past opened server login others o all = λ link cause now. by_test link cause (opened == link) refl now
-  where
-    by_losing : (link : ℕ) (cause : LinkCause) → (opened == link) ≡ false → Losing link cause past
-        → Losing link cause (Puts (Opens opened server login) ∷ past)
+    by_losing : (link : ℕ) (cause : LinkCause) → (opened == link) ≡ false → Losing config link cause past
+        → Losing config link cause (Puts (Opens opened server login) ∷ past)
     by_losing link cause t (unasked is) = unasked is
     by_losing link cause t (gone is) = gone (no_more link opened (without opened (links past)) (without_keeps_out opened link (links past) is) t)
     by_losing link cause t (soon is) =
         absurd (let clash : Opens opened server login ∷ others ≡ Drops link (drop_cause cause) ∷ [] = sym o ∙ is in cc)
 
     by_test : (link : ℕ) (cause : LinkCause) (test : Bool) → (opened == link) ≡ test
-        → (if test then opening login else linked link past) ≡ IsLost cause → Losing link cause (Puts (Opens opened server login) ∷ past)
+        → (if test then opening login else linked link past) ≡ IsLost cause → Losing config link cause (Puts (Opens opened server login) ∷ past)
     by_test link cause true t now = absurd cc
     by_test link cause false t now = by_losing link cause t (all link cause now)
 
-put_loses : (past : List Item) (put : Put) (others : List Put) → owed past ≡ put ∷ others → AllLosing past → AllLosing (Puts put ∷ past)
-put_loses past (Hands packets) others o all = λ link cause now.
-    stays past (Hands packets) link cause (λ is. let clash : Hands packets ∷ others ≡ Drops link (drop_cause cause) ∷ [] = sym o ∙ is in cc)
+put_loses : (config : Config) (past : List Item) (put : Put) (others : List Put) → owed config past ≡ put ∷ others → AllLosing config past → AllLosing config (Puts put ∷ past)
+put_loses config past (Hands packets) others o all = λ link cause now.
+    stays config past (Hands packets) link cause (λ is. let clash : Hands packets ∷ others ≡ Drops link (drop_cause cause) ∷ [] = sym o ∙ is in cc)
     refl (all link cause now)
-put_loses past (Routes login) others o all = λ link cause now.
-    stays past (Routes login) link cause (λ is. let clash : Routes login ∷ others ≡ Drops link (drop_cause cause) ∷ [] = sym o ∙ is in cc)
+put_loses config past Routes others o all = λ link cause now.
+    stays config past Routes link cause (λ is. let clash : Routes ∷ others ≡ Drops link (drop_cause cause) ∷ [] = sym o ∙ is in cc)
     refl (all link cause now)
-put_loses past (LogsInto to packets) others o all = λ link cause now.
-    stays past (LogsInto to packets) link cause (λ is. let clash : LogsInto to packets ∷ others ≡ Drops link (drop_cause cause) ∷ [] = sym o ∙ is in cc)
+put_loses config past (LogsInto to packets) others o all = λ link cause now.
+    stays config past (LogsInto to packets) link cause (λ is. let clash : LogsInto to packets ∷ others ≡ Drops link (drop_cause cause) ∷ [] = sym o ∙ is in cc)
     refl (all link cause now)
-put_loses past (Opens opened server login) others o all = opening_loses past opened server login others o all
-put_loses past (Tells number tell) others o all = λ link cause now.
-    stays past (Tells number tell) link cause (λ is. let clash : Tells number tell ∷ others ≡ Drops link (drop_cause cause) ∷ [] = sym o ∙ is in cc)
+put_loses config past (Opens opened server login) others o all = opening_loses config past opened server login others o all
+put_loses config past (Tells number tell) others o all = λ link cause now.
+    stays config past (Tells number tell) link cause (λ is. let clash : Tells number tell ∷ others ≡ Drops link (drop_cause cause) ∷ [] = sym o ∙ is in cc)
     refl (all link cause now)
-put_loses past (Sends to purpose) others o all =
-    sending_loses past to purpose (λ link cause now.
-    stays past (Sends to purpose) link cause (λ is. let clash : Sends to purpose ∷ others ≡ Drops link (drop_cause cause) ∷ [] = sym o ∙ is in cc)
+put_loses config past (Sends to purpose) others o all =
+    sending_loses config past to purpose (λ link cause now.
+    stays config past (Sends to purpose) link cause (λ is. let clash : Sends to purpose ∷ others ≡ Drops link (drop_cause cause) ∷ [] = sym o ∙ is in cc)
     refl (all link cause now))
-put_loses past (Drops other why) others o all = λ link cause now. given_up past other why others link cause o (all link cause now)
-put_loses past (Closes reason) others o all = λ link cause now.
-    stays past (Closes reason) link cause (λ is. let clash : Closes reason ∷ others ≡ Drops link (drop_cause cause) ∷ [] = sym o ∙ is in cc)
+put_loses config past (Drops other why) others o all = λ link cause now. given_up config past other why others link cause o (all link cause now)
+put_loses config past (Closes reason) others o all = λ link cause now.
+    stays config past (Closes reason) link cause (λ is. let clash : Closes reason ∷ others ≡ Drops link (drop_cause cause) ∷ [] = sym o ∙ is in cc)
     refl (all link cause now)
 
-due_loses : {config : Config} {past : List Item} {item : Item} → owed past ≡ [] → Due config past item → AllLosing past
-    → AllLosing (item ∷ past)
-due_loses {past = past} o (comes {link = from} {said = said} has a it) all = coming_loses past from said o it all
+due_loses : {config : Config} {past : List Item} {item : Item} → owed config past ≡ [] → Due config past item → AllLosing config past
+    → AllLosing config (item ∷ past)
+due_loses {config} {past} o (comes {link = from} {said = said} has a it) all = coming_loses config past from said o it all
 due_loses o (takes p f) all = λ link cause now. still o (λ less. less) (all link cause now)
 due_loses o (connects p f c) all = λ link cause now. still o (λ less. less) (all link cause now)
 
-step_loses : {config : Config} {past : List Item} {item : Item} → Step config past item → AllLosing past → AllLosing (item ∷ past)
-step_loses {past = past} (pays {put = put} {others = others} o) all = put_loses past put others o all
+step_loses : {config : Config} {past : List Item} {item : Item} → Step config past item → AllLosing config past → AllLosing config (item ∷ past)
+step_loses {config} {past} (pays {put = put} {others = others} o) all = put_loses config past put others o all
 step_loses (asks o n p k l) all = λ link cause now. still o (λ less. less) (all link cause now)
-step_loses {past = past} (prepares {link = to} o n k c) all =
-    sending_loses past to Prepares (λ link cause now. still o (λ less. less) (all link cause now))
-step_loses {past = past} (sends {link = to} {command = command} o n p s k c) all =
-    sending_loses past to (Asks command) (λ link cause now. still o (λ less. less) (all link cause now))
+step_loses {config} {past} (prepares {link = to} o n k c) all =
+    sending_loses config past to Prepares (λ link cause now. still o (λ less. less) (all link cause now))
+step_loses {config} {past} (plays {link = to} {command = command} o n k c s) all =
+    sending_loses config past to (Plays command) (λ link cause now. still o (λ less. less) (all link cause now))
+step_loses {config} {past} (sends {link = to} {command = command} o n p s k c d) all =
+    sending_loses config past to (Asks command) (λ link cause now. still o (λ less. less) (all link cause now))
 step_loses (floods o n p above) all = λ link cause now. still o (λ less. less) (all link cause now)
 step_loses (reads o n due) all = due_loses o due all
 
-input_loses : (past : List Item) (item : Item) → owed past ≡ [] → IsInput item past → AllLosing past → AllLosing (item ∷ past)
-input_loses past (ClientBytes bytes) o input all = λ link cause now. still o (λ less. less) (all link cause now)
-input_loses past (LinkReady ready) o input all = ready_loses past ready o all
-input_loses past (LinkBytes from bytes) o input all = bytes_lose past from bytes o all
-input_loses past ClientGone o input all = λ link cause now. still o (λ less. less) (all link cause now)
-input_loses past (LinkLost lost) o input all = λ link cause now.
+input_loses : (config : Config) (past : List Item) (item : Item) → owed config past ≡ [] → IsInput item past → AllLosing config past → AllLosing config (item ∷ past)
+input_loses config past (ClientBytes bytes) o input all = λ link cause now. still o (λ less. less) (all link cause now)
+input_loses config past (LinkReady ready) o input all = ready_loses config past ready o all
+input_loses config past (LinkBytes from bytes) o input all = bytes_lose config past from bytes o all
+input_loses config past ClientGone o input all = λ link cause now. still o (λ less. less) (all link cause now)
+input_loses config past (LinkLost lost) o input all = λ link cause now.
     still o (λ less. without_keeps_out lost link (links past) less) (all link cause now)
-input_loses past _ o input all = absurd input
+input_loses config past (Ticks reading) o input all = λ link cause now. still o (λ less. less) (all link cause now)
+input_loses config past _ o input all = absurd input
 
-begun_loses : (link server : ℕ) → AllLosing (Began link server ∷ [])
-begun_loses link server = λ other cause now. by_test other cause (link == other) now
+begun_loses : (config : Config) (link server reading : ℕ) → AllLosing config (Began link server reading ∷ [])
+begun_loses config link server reading = λ other cause now. by_test other cause (link == other) now
   where
     by_test : (other : ℕ) (cause : LinkCause) (test : Bool) → (if test then Rests else Rests) ≡ IsLost cause
-        → Losing other cause (Began link server ∷ [])
+        → Losing config other cause (Began link server reading ∷ [])
     by_test other cause true now = absurd cc
     by_test other cause false now = absurd cc
 
-begins_loses : (item : Item) → IsBeginning item → AllLosing (item ∷ [])
-begins_loses (Accepted session scramble) its = λ other cause now. absurd cc
-begins_loses (TurnsAway told) its = λ other cause now. absurd cc
-begins_loses (Began link server) its = begun_loses link server
-begins_loses _ its = absurd its
+begins_loses : (config : Config) (item : Item) → IsBeginning item → AllLosing config (item ∷ [])
+begins_loses config (Accepted session scramble reading) its = λ other cause now. absurd cc
+begins_loses config (TurnsAway told) its = λ other cause now. absurd cc
+begins_loses config (Began link server reading) its = begun_loses config link server reading
+begins_loses config _ its = absurd its
 
-legal_losing : {config : Config} {past : List Item} → IsRecord config past → is_starved past ≡ false → AllLosing past
-legal_losing (begins {item = item} its) fed = begins_loses item its
+legal_losing : {config : Config} {past : List Item} → IsRecord config past → is_starved past ≡ false → AllLosing config past
+legal_losing {config} (begins {item = item} its) fed = begins_loses config item its
 legal_losing {config} (goes {past = past} {item = item} legal next) fed =
     let step = of_next config past item next in step_loses step (legal_losing legal (sym (step_starved step) ∙ fed))
 legal_losing (answered legal asked) fed = λ link cause now.
     still (asks_owing_nothing legal asked) (λ less. less) (legal_losing legal fed link cause now)
 legal_losing {config} (hears {past = past} {item = item} legal rests none n input) fed =
-    input_loses past item (rests_owing_nothing config past rests none) input (legal_losing legal (sym (input_starved past item input) ∙ fed))
+    input_loses config past item (rests_owing_nothing config past rests none) input (legal_losing legal (sym (input_starved past item input) ∙ fed))
 legal_losing (starves legal once can its) fed = absurd cc
 
 -- of a session that owes nothing, a link that it has is lost for nothing else
 abbrev pub AreUnasked : List Item → Type 0
 AreUnasked past = (link : ℕ) (cause : LinkCause) → contains link (links past) ≡ true → linked link past ≡ IsLost cause → cause ≡ Unasked
 
-pub legal_unasked : {config : Config} {past : List Item} → IsRecord config past → is_starved past ≡ false → owed past ≡ [] → AreUnasked past
-legal_unasked {past = past} legal fed o = λ link cause has now. by_losing link cause has (legal_losing legal fed link cause now)
+pub legal_unasked : {config : Config} {past : List Item} → IsRecord config past → is_starved past ≡ false → owed config past ≡ [] → AreUnasked past
+legal_unasked {config} {past} legal fed o = λ link cause has now. by_losing link cause has (legal_losing legal fed link cause now)
   where
-    by_losing : (link : ℕ) (cause : LinkCause) → contains link (links past) ≡ true → Losing link cause past → cause ≡ Unasked
+    by_losing : (link : ℕ) (cause : LinkCause) → contains link (links past) ≡ true → Losing config link cause past → cause ≡ Unasked
     by_losing link cause has (unasked is) = is
     by_losing link cause has (gone is) = absurd cc
     by_losing link cause has (soon is) = absurd cc

@@ -1,9 +1,9 @@
 -- What is owed on a legal record has its cause.
-use Rattle.std.proofs.Common.{◌≡◌, ℕ, Bool, true, false, List, [], ◌∷◌, ◌++◌, map, refl, sym, ap, subst, ◌∙◌, inl, inr, Option, Some, None}
-use Rattle.std.specs.Prelude.{◌≢◌, ◌⊎◌, Contains, ◌==◌}
-use Rattle.std.proofs.lemmas.Bool.{eq-eqb}
+use Rattle.std.proofs.Common.{◌≡◌, ℕ, Bool, true, false, List, [], ◌∷◌, ◌++◌, length, refl, sym, ap, subst, ◌∙◌, inl, inr, Option, Some, None}
+use Rattle.std.specs.Prelude.{◌≢◌, ◌⊎◌, ◌&&◌, ◌≤◌, nat_lt, not, Contains, ◌==◌, is_some}
+use Rattle.std.proofs.lemmas.Bool.{cases_lt, eq-eqb, lt-ltb, ltb-true}
 use Rattle.rws_wire.specs.declared.close_reason.CloseReason.{CloseReason}
-use Rattle.rws_wire.specs.declared.drop_cause.DropCause.TheVariants.{BadReply, Unasked, Login as LoginFails, End}
+use Rattle.rws_wire.specs.declared.drop_cause.DropCause.TheVariants.{BadReply, Unasked, Login as LoginFails, Kept, SessionDiffers}
 use Rattle.rws_wire.specs.Payloads.{first_payload}
 use Rattle.rws_wire.specs.Payloads.Beginning.{Whole}
 use Rattle.rws_reply.specs.declared.kind.Kind.{Kind}
@@ -29,9 +29,10 @@ use Rattle.rws_config.specs.declared.limits.TheConstants.{SERVER_PAYLOAD}
 use Rattle.rws_record.specs.declared.command.Command.{Command}
 use Rattle.rws_record.specs.declared.request.Request.{Request}
 use Rattle.rws_record.specs.declared.request.Request.TheVariants as requests
-use Rattle.rws_record.specs.Item.{Item}
+use Rattle.rws_record.specs.Item.{Item, Recording, Tell}
 use Rattle.rws_record.specs.Item.Item.{TurnsAway, Comes, Connects, Puts}
-use Rattle.rws_record.specs.Item.Purpose.{Prepares, Asks}
+use Rattle.rws_record.specs.Item.Purpose.{Prepares, Asks, Plays}
+use Rattle.rws_record.specs.Item.Recording.{Nothing, Accepts, Keeps}
 use Rattle.rws_record.specs.Item.Put.{Hands, Tells, Drops, Closes}
 use Rattle.rws_record.specs.Item.Tell.{Passes}
 use Rattle.rws_class.specs.Classes.{class_of}
@@ -39,45 +40,32 @@ use Rattle.rws_class.specs.declared.class.Class.{Class}
 use Rattle.rws_class.specs.declared.class.Class.TheVariants.{Read, PrimaryRead, Write, Session, Begin, BeginReadOnly, Commit, Rollback, AutocommitOn, AutocommitOff, TrxLocal, Ddl, Refused as Forbidden, Other}
 use Rattle.rws_record.specs.Judging.{is_forbidden, judged_as, query_judged}
 use Rattle.rws_record.specs.Requests.{arguments_of, class_by, request_of}
-use Rattle.rws_record.specs.Values.{fronted, links, kept_on, asked_on, awaited, exchange, linked, prepared_handle, link_held, pending, sent_on, reply_number, told, told_from, is_over}
-use Rattle.rws_record.specs.Rules.{is_link, after_loss, after_loss_by, assigned_by, loss_by, after_command, after_connecting, after_flood, after_preparing, after_turning_away, after_answer, form_of, unasked}
+use Rattle.rws_record.specs.Values.{accepted, autocommit, class_by_pending, class_of_command, fronted, is_session, goes_on, links, kept_on, asked_on, awaited, exchange, linked, prepared_handle, link_held, pending, sent_on, reply_number, told, told_from, is_over, without}
+use Rattle.rws_record.specs.Rules.{again_by, goes_if, is_link, after_loss, after_loss_by, loss_by, own_status, sends_again, after_command, after_connecting, after_flood, after_keeping, after_played, after_preparing, after_turning_away, after_answer, form_of, recording_by, recording_of, unasked}
 use Rattle.rws_record.proofs.LinkedLemmas.{after_part_is}
+use Rattle.rws_record.proofs.RecordLemmas.{contained}
 use Rattle.rws_laws.specs.Client.{Took, Flooded, IsPending, IsSaid, Refused}
 use Rattle.rws_laws.specs.Client.Refused.{not_spoken, denied, out_of_order, too_large}
 use Rattle.rws_laws.specs.Client.Handed.{in_login, at_end}
 use Rattle.rws_laws.specs.Client.WasRefused.{refused}
 use Rattle.rws_laws.specs.Client.Asked.{before}
-use Rattle.rws_laws.specs.Servers.{IsNoReply, came_on, lost}
+use Rattle.rws_laws.specs.Servers.{IsNoReply, Lost, came_on}
 use Rattle.rws_laws.specs.Servers.IsWrong.{wrong}
 use Rattle.rws_laws.specs.Servers.WasUnasked.{behind_reply, earlier}
-use Rattle.rws_laws.specs.Causes.{IsOfReply, IsOutOn, IsPassed}
+use Rattle.rws_laws.specs.Causes.{HasSet, IsCut, IsHidden, IsOfReply, IsPassed, IsRecorded, MayLast, SetsSession, status_by}
+use Rattle.rws_laws.specs.Causes.JustKept.{fills}
+use Rattle.rws_laws.specs.Causes.SetsSession.{sets, sets_autocommit}
+use Rattle.rws_laws.specs.Causes.MayLast.{anything, definitions, rows}
 use Rattle.rws_laws.proofs.CameLemmas.{left_by, part_leaves}
-use Rattle.rws_laws.proofs.ReplyLemmas.{unsent_told}
-use Rattle.rws_laws.proofs.Sound.{Caused, Links, Sent, ToldBy, Telling, IsAsked, Asking, has_itself, is_that, is_not, same_some}
-use Rattle.rws_laws.proofs.Sound.Caused.{nothing, drops, closes, hands, tells}
-use Rattle.rws_laws.proofs.Sound.Links.{none_yet, has_one, is_over_now, closes_now}
+use Rattle.rws_laws.proofs.LinksLemmas.{StaysCaused, others_caused}
+use Rattle.rws_laws.proofs.ListLemmas.{has_it, other_stays}
+use Rattle.rws_laws.proofs.Sound.{Caused, Sent, ToldBy, Telling, IsAsked, Asking, is_that, is_not}
+use Rattle.rws_laws.proofs.Sound.Caused.{nothing, drops, leaves as leaves_behind, closes, hands, tells}
 use Rattle.rws_laws.proofs.Sound.ToldBy.{none_told, a_part, all}
-
--- A session that is over gives up the links that it has
-
-pub few : {past : List Item} → Links past → (links past ≡ []) ⊎ ((link : ℕ) × (links past ≡ link ∷ []))
-few (none_yet e k) = inl e
-few (has_one link e k) = inr (link, e)
-few (is_over_now e over) = inl e
-few (closes_now e reason owes) = inl e
-
-bye : (config : Config) (now : List Item) (list : List ℕ) → links now ≡ list → (list ≡ []) ⊎ ((link : ℕ) × (list ≡ link ∷ []))
-    → is_over now ≡ true → Caused config (map (λ link. Drops link End) list) now
-bye config now list l (inl e) over = rw e nothing
-bye config now list l (inr one) over = rw one.1 (drops {link = one.0} {cause = End} (over, has_itself one.0 (links now) (l ∙ one.1)))
-
-pub farewells_caused : (config : Config) (past now : List Item) → Links past → links now ≡ links past → is_over now ≡ true
-    → Caused config (map (λ link. Drops link End) (links past)) now
-farewells_caused config past now one_link l over = bye config now (links past) l (few one_link) over
 
 -- A session closes when its link is lost
 
-cut : {list : List Payload} {from sent : Option ℕ} {pending : Option Command} (link : ℕ) → ToldBy list from sent pending
+pub cut : {list : List Payload} {from sent : Option ℕ} {pending : Option Command} (link : ℕ) → ToldBy list from sent pending
     → from ≡ Some link → (list ≢ []) × (sent ≡ Some link)
 cut link none_told e = absurd cc
 cut link (a_part some) e = (some, e)
@@ -89,61 +77,83 @@ uncut link command none_told n s p = refl
 uncut link command (a_part some) n s p = absurd (n s)
 uncut link command all n s p = absurd cc
 
-module _ (config : Config) (now : List Item) (link : ℕ) (sent : Sent now) (telling : Telling now) (asks : Asking config now) where
-  abbrev assigned : Option ℕ
-  assigned = assigned_by (pending now) (sent_on now) (kept_on now)
+-- which commands aren't sent again
+lasting : (class : Class) (autocommit : Bool) → sends_again class autocommit ≡ false → MayLast class autocommit
+lasting Other autocommit e = anything
+lasting Ddl autocommit e = definitions
+lasting Write true e = rows
+lasting Write false e = absurd cc
+lasting Read autocommit e = absurd cc
+lasting PrimaryRead autocommit e = absurd cc
+lasting Session autocommit e = absurd cc
+lasting Begin autocommit e = absurd cc
+lasting BeginReadOnly autocommit e = absurd cc
+lasting Commit autocommit e = absurd cc
+lasting Rollback autocommit e = absurd cc
+lasting AutocommitOn autocommit e = absurd cc
+lasting AutocommitOff autocommit e = absurd cc
+lasting TrxLocal autocommit e = absurd cc
+lasting Forbidden autocommit e = absurd cc
 
-  its_command : sent_on now ≡ Some link → (command : Command) × IsPending config command now
+not_again : {class : Class} {autocommit : Bool} → MayLast class autocommit → sends_again class autocommit ≡ true → ⊥
+not_again anything e = absurd cc
+not_again definitions e = absurd cc
+not_again rows e = absurd cc
+
+module _ (config : Config) (below past : List Item) (link : ℕ) (lost : Lost link below past) (sent : Sent config below) (telling : Telling below)
+    (asks : Asking config below) where
+  abbrev again : Bool
+  again = again_by (pending below) (autocommit config below)
+
+  its_command : sent_on below ≡ Some link → (command : Command) × IsPending config command below
   its_command s = let there = sent link s in (there.0, record { waits = there.1; asked = (asks there.0 there.1).asked })
 
-  -- the pending command was sent on the link, or waits for it
-  assigned_there : (command : Option Command) (on kept : Option ℕ) → pending now ≡ command → sent_on now ≡ on → kept_on now ≡ kept
-      → assigned_by command on kept ≡ Some link → is_link link (told_from now) ≡ false
-      → (command : Command) × IsPending config command now × IsOutOn link now × (told now ≡ [])
-  assigned_there None on kept p s k a f = absurd cc
-  assigned_there (Some command) None kept p s k a f = (
-    command,
-    record { waits = p; asked = (asks command p).asked },
-    inr (s, k ∙ a, refl),
-    (unsent_told command s p telling).0,
-  )
-  assigned_there (Some command) (Some other) kept p s k a f = (
-    command,
-    record { waits = p; asked = (asks command p).asked },
-    inl (s ∙ a),
-    uncut link command telling (is_not link (told_from now) f) (s ∙ a) p,
-  )
+  not_cut : is_link link (told_from below) ≡ false → (command : Command) → ¬ IsCut config link command below
+  not_cut t command is = is_not link (told_from below) t is.from
 
-  -- no command is there
-  none_assigned : (command : Option Command) (on : Option ℕ) → pending now ≡ command → sent_on now ≡ on → kept_on now ≡ Some link
-      → assigned_by command on (Some link) ≢ Some link → (pending now ≡ None) × (sent_on now ≡ None)
-  none_assigned (Some command) None p s k not_there = absurd (not_there refl)
-  none_assigned command (Some other) p s k not_there =
-      let there = sent other s in
-      let same : other ≡ link = same_some other link (sym there.2 ∙ k) in
-      let its : command ≡ Some there.0 = sym p ∙ there.1 in
-      absurd (not_there (rw its (ap Some same)))
-  none_assigned None None p s k not_there = (p, s)
+  not_hidden : (sent_there its_again : Bool) → is_link link (sent_on below) ≡ sent_there → again ≡ its_again
+      → (sent_there && not its_again) ≡ false → (command : Command) → ¬ IsHidden config link command below
+  not_hidden false its_again s a none command is = is_not link (sent_on below) s is.sent
+  not_hidden true false s a none command is = absurd cc
+  not_hidden true true s a none command is =
+      not_again is.lasts
+      (ap (λ (found : Option Command). again_by found (autocommit config below)) (sym is.pending.waits) ∙ a)
 
-  losing : (its_part its_command is_kept : Bool) → is_link link (told_from now) ≡ its_part → is_link link assigned ≡ its_command
-      → is_link link (kept_on now) ≡ is_kept → lost now ≡ Some link → kept_on now ≡ Some link
-      → Caused config (after_loss_by (loss_by its_part its_command false is_kept false false its_command)) now
-  losing true a k t_is a_is k_is l kept =
-      let from = is_that link (told_from now) t_is in
+  hides : (command : Command) → IsPending config command below → sent_on below ≡ Some link → again ≡ false → is_link link (told_from below) ≡ false
+      → IsHidden config link command below
+  hides command is s a t = record {
+    pending = is;
+    sent = s;
+    lasts = lasting (class_of_command command) (autocommit config below)
+        (ap (λ (found : Option Command). again_by found (autocommit config below)) (sym is.waits) ∙ a);
+    none = uncut link command telling (is_not link (told_from below) t) s is.waits;
+  }
+
+  losing : (its_part sent_there its_again is_kept assigned : Bool) → is_link link (told_from below) ≡ its_part
+      → is_link link (sent_on below) ≡ sent_there → again ≡ its_again → is_link link (kept_on below) ≡ is_kept
+      → Caused config (after_loss_by (loss_by its_part sent_there its_again is_kept false false assigned)) past
+  losing true sent_there its_again is_kept assigned t s a k =
+      let from = is_that link (told_from below) t in
       let part = cut link telling from in
       let command = its_command part.1 in
-      closes (link, command.0, l, command.1, from, part.0)
-  losing false true k t_is a_is k_is l kept =
-      let there = assigned_there (pending now) (sent_on now) (kept_on now) refl refl refl (is_that link assigned a_is) t_is in
-      closes (link, there.0, l, there.1, there.2, there.3)
-  losing false false true t_is a_is k_is l kept =
-      let none = none_assigned (pending now) (sent_on now) refl refl kept
-      (λ there. is_not link assigned a_is (ap (assigned_by (pending now) (sent_on now)) kept ∙ there)) in
-      closes (link, l, kept, none.0, none.1)
-  losing false false false t_is a_is k_is l kept = absurd (is_not link (kept_on now) k_is kept)
+      closes (link, below, command.0, lost, record { pending = command.1; from = from; some = part.0 })
+  losing false true false is_kept assigned t s a k =
+      let on = is_that link (sent_on below) s in
+      let command = its_command on in
+      closes (link, below, command.0, lost, hides command.0 command.1 on a t)
+  losing false true true true assigned t s a k =
+      closes (link, below, lost, is_that link (kept_on below) k, not_cut t, not_hidden true true s a refl)
+  losing false false its_again true assigned t s a k =
+      closes (link, below, lost, is_that link (kept_on below) k, not_cut t, not_hidden false its_again s a refl)
+  losing false true true false true t s a k = nothing
+  losing false true true false false t s a k = nothing
+  losing false false its_again false true t s a k = nothing
+  losing false false its_again false false t s a k = nothing
 
-  pub loss_caused : lost now ≡ Some link → kept_on now ≡ Some link → Caused config (after_loss link now) now
-  loss_caused l kept = losing (is_link link (told_from now)) (is_link link assigned) (is_link link (kept_on now)) refl refl refl l kept
+  pub loss_caused : Caused config (after_loss config link below) past
+  loss_caused =
+      losing (is_link link (told_from below)) (is_link link (sent_on below)) again (is_link link (kept_on below))
+      (is_link link (goes_if (pending below) (goes_on config below))) refl refl refl refl
 
 -- A command is answered, whatever it is
 
@@ -163,21 +173,26 @@ forbidden_is TrxLocal e = absurd cc
 forbidden_is Ddl e = absurd cc
 forbidden_is Other e = absurd cc
 
-query_caused : (config : Config) (payload : Payload) (number : ℕ) (past : List Item) (forbidden : Bool)
+status_is : (on : Bool) → own_status on ≡ status_by on
+status_is true = refl
+status_is false = refl
+
+query_caused : (config : Config) (payload : Payload) (number status : ℕ) (past : List Item) (forbidden : Bool)
     → is_forbidden (class_of (arguments_of payload)) ≡ forbidden → request_of payload ≡ requests.Query
-    → Took config payload number past → Caused config (after_command (query_judged forbidden payload number) number) past
-query_caused config payload number past true f r taken =
+    → Took config payload number past → Caused config (after_command (query_judged forbidden payload number) number status) past
+query_caused config payload number status past true f r taken =
     tells (payload, taken, inr (r, forbidden_is (class_of (arguments_of payload)) f)) nothing
-query_caused config payload number past false f r taken = nothing
+query_caused config payload number status past false f r taken = nothing
 
 pub command_caused : (config : Config) (payload : Payload) (number : ℕ) (past : List Item) (request : Request)
     → request_of payload ≡ request → Took config payload number past
-    → Caused config (after_command (judged_as request (class_by request payload) payload number) number) past
+    → Caused config (after_command (judged_as request (class_by request payload) payload number) number (own_status (autocommit config past))) past
 command_caused config payload number past requests.Quit r taken = closes (payload, number, taken, r)
-command_caused config payload number past requests.Ping r taken = tells (payload, taken, r, refl) nothing
+command_caused config payload number past requests.Ping r taken = tells (payload, taken, r, status_is (autocommit config past)) nothing
 command_caused config payload number past requests.Query r taken =
-    query_caused config payload number past (is_forbidden (class_of (arguments_of payload))) refl r taken
+    query_caused config payload number (own_status (autocommit config past)) past (is_forbidden (class_of (arguments_of payload))) refl r taken
 command_caused config payload number past requests.FieldList r taken = nothing
+command_caused config payload number past requests.InitDb r taken = nothing
 command_caused config payload number past requests.Unsupported r taken = tells (payload, taken, inl r) nothing
 command_caused config payload number past requests.Unknown r taken = tells (payload, taken, r) nothing
 
@@ -221,6 +236,7 @@ pub record Arrived (past : List Item) (link : ℕ) (e : Exchange) (payload rest 
   pub state : linked link past ≡ Awaits e (link_held link past)
   pub begins : first_payload SERVER_PAYLOAD e.next (link_held link past) ≡ Whole payload number rest
   pub came : e.sofar ≡ came_on link past
+  pub goes : is_over past ≡ false
 
 module _ (past : List Item) (link : ℕ) (e : Exchange) (payload rest : Payload) (number : ℕ) (arrived : Arrived past link e payload rest number) where
   itself : (link == link) ≡ true
@@ -256,6 +272,48 @@ module _ (past : List Item) (link : ℕ) (e : Exchange) (payload rest : Payload)
         ∙ part_leaves (with_part payload number e) rest far
         )
 
+-- a byte behind a whole reply in the same piece costs the link
+byte_behind : (config : Config) (past : List Item) (link : ℕ) (e : Exchange) (payload rest : Payload) (number : ℕ) → Arrived past link e payload rest number
+    → (its : Role) (outcome : Outcome) → role e.kind e.sofar payload ≡ Some its → progress e.kind e.sofar payload ≡ Some (Ends outcome)
+    → Caused config (unasked link (is_some_byte rest)) (Comes link (steps.Part payload its (Ends outcome) number (is_some_byte rest)) ∷ past)
+byte_behind config past link e payload rest number arrived its outcome r p =
+    by_rest rest arrived.begins (leaves past link e payload rest number arrived its (Ends outcome) r p)
+  where
+    by_rest : (behind : Payload) → first_payload SERVER_PAYLOAD e.next (link_held link past) ≡ Whole payload number behind
+        → exchange link (Comes link (steps.Part payload its (Ends outcome) number (is_some_byte rest)) ∷ past) ≡ None
+        → Caused config (unasked link (is_some_byte behind)) (Comes link (steps.Part payload its (Ends outcome) number (is_some_byte rest)) ∷ past)
+    by_rest [] f none = nothing
+    by_rest (byte ∷ behind) f none =
+        drops {link = link} {cause = Unasked} arrived.goes (
+          (
+            behind_reply {e = e} {payload = payload} {rest = behind} {byte = byte} {number = number} outcome arrived.owes f
+                (((progress_is_exact e.kind e.sofar payload).whole outcome).0 p),
+            none,
+          ),
+          arrived.has,
+        )
+
+-- and it does so once the end was told, and when other links were given up since
+unasked_told : (config : Config) (now : List Item) (link : ℕ) (behind : Bool) (number : ℕ) (tell : Tell) → Caused config (unasked link behind) now
+    → Caused config (unasked link behind) (Puts (Tells number tell) ∷ now)
+unasked_told config now link false number tell caused = nothing
+unasked_told config now link true number tell (drops n cause) = drops n ((earlier cause.0.0, cause.0.1), cause.1)
+unasked_told config now link true number tell (leaves_behind lossless cause rest) = absurd cc
+
+unasked_stays : (config : Config) (now : List Item) (link : ℕ) (behind : Bool) → Caused config (unasked link behind) now
+    → StaysCaused config link (unasked link behind) now
+unasked_stays config now link behind caused = record { stands = caused; later = λ other past apart its. stays behind other past apart its }
+  where
+    stays : (behind : Bool) (other : ℕ) (past : List Item) → (link == other) ≡ false → Caused config (unasked link behind) past
+        → Caused config (unasked link behind) (Puts (Drops other Kept) ∷ past)
+    stays false other past apart its = nothing
+    stays true other past apart (drops n cause) =
+        drops n (
+          (earlier cause.0.0, cause.0.1),
+          contained link (without other (links past)) (other_stays other link (links past) apart (has_it (links past) link cause.1)),
+        )
+    stays true other past apart (leaves_behind lossless cause rest) = absurd cc
+
 -- The preamble's reply
 
 module _ (config : Config) (past : List Item) (link : ℕ) (e : Exchange) (payload rest : Payload) (number : ℕ)
@@ -263,7 +321,7 @@ module _ (config : Config) (past : List Item) (link : ℕ) (e : Exchange) (paylo
   pub misprepared_caused : progress e.kind e.sofar payload ≡ None
       → Caused config (Drops link BadReply ∷ []) (Comes link (steps.Lost losses.BadReply) ∷ past)
   misprepared_caused p =
-      drops {link = link} {cause = BadReply}
+      drops {link = link} {cause = BadReply} arrived.goes
       (inr (inl (payload, asked, no_reply_so past link e payload rest number arrived QueryReply kind p)), arrived.has)
 
   pub preparing_caused : (its : Role) (far : Progress) → role e.kind e.sofar payload ≡ Some its → progress e.kind e.sofar payload ≡ Some far
@@ -273,26 +331,93 @@ module _ (config : Config) (past : List Item) (link : ℕ) (e : Exchange) (paylo
       let reply = ((progress_is_exact e.kind e.sofar payload).whole (Failed code)).0 p in
       let reply : IsReply QueryReply (e.sofar ++ payload ∷ []) (Failed code) = rw kind at reply in
       let came = came_with past link e payload rest number arrived its (Ends (Failed code)) r p in
-      drops {link = link} {cause = LoginFails code} (
+      drops {link = link} {cause = LoginFails code} arrived.goes (
         inr (record { came = refl; asked = asked; failed = subst (λ (list : List Payload). IsReply QueryReply list (Failed code)) (sym came) reply }),
         arrived.has,
       )
   preparing_caused its (Ends (Done status)) r p =
-      byte_behind rest arrived.begins (leaves past link e payload rest number arrived its (Ends (Done status)) r p)
-    where
-      byte_behind : (behind : Payload) → first_payload SERVER_PAYLOAD e.next (link_held link past) ≡ Whole payload number behind
-          → exchange link (Comes link (steps.Part payload its (Ends (Done status)) number (is_some_byte rest)) ∷ past) ≡ None
-          → Caused config (unasked link (is_some_byte behind)) (Comes link (steps.Part payload its (Ends (Done status)) number (is_some_byte rest)) ∷ past)
-      byte_behind [] f none = nothing
-      byte_behind (byte ∷ behind) f none =
-          drops {link = link} {cause = Unasked} (
-            (
-              behind_reply {e = e} {payload = payload} {rest = behind} {byte = byte} {number = number} (Done status) arrived.owes f
-                  (((progress_is_exact e.kind e.sofar payload).whole (Done status)).0 p),
-              none,
-            ),
-            arrived.has,
-          )
+      byte_behind config past link e payload rest number arrived its (Done status) r p
+
+-- The reply to an entry of the history
+
+module _ (config : Config) (past : List Item) (link : ℕ) (e : Exchange) (payload rest : Payload) (number : ℕ)
+    (arrived : Arrived past link e payload rest number) (command : Command) (kind : e.kind ≡ command.kind)
+    (asked : asked_on link past ≡ Some (Plays command)) where
+  pub misplayed_caused : progress e.kind e.sofar payload ≡ None
+      → Caused config (Drops link BadReply ∷ []) (Comes link (steps.Lost losses.BadReply) ∷ past)
+  misplayed_caused p =
+      drops {link = link} {cause = BadReply} arrived.goes
+      (inr (inr (inl (command, payload, asked, no_reply_so past link e payload rest number arrived command.kind kind p))), arrived.has)
+
+  pub playing_caused : (its : Role) (far : Progress) → role e.kind e.sofar payload ≡ Some its → progress e.kind e.sofar payload ≡ Some far
+      → Caused config (after_played link far (is_some_byte rest)) (Comes link (steps.Part payload its far number (is_some_byte rest)) ∷ past)
+  playing_caused its More r p = nothing
+  playing_caused its (Ends (Failed code)) r p =
+      let reply = ((progress_is_exact e.kind e.sofar payload).whole (Failed code)).0 p in
+      let reply : IsReply command.kind (e.sofar ++ payload ∷ []) (Failed code) = rw kind at reply in
+      let came = came_with past link e payload rest number arrived its (Ends (Failed code)) r p in
+      drops {link = link} {cause = SessionDiffers} arrived.goes (
+        record {
+          came = refl;
+          command = command;
+          asked = asked;
+          code = code;
+          failed = subst (λ (list : List Payload). IsReply command.kind list (Failed code)) (sym came) reply;
+        },
+        arrived.has,
+      )
+  playing_caused its (Ends (Done status)) r p =
+      byte_behind config past link e payload rest number arrived its (Done status) r p
+
+-- What the end of a reply means for the history
+
+session_class : (class : Class) → is_session class ≡ true → SetsSession class
+session_class Session e = sets
+session_class AutocommitOn e = sets_autocommit
+session_class Read e = absurd cc
+session_class PrimaryRead e = absurd cc
+session_class Write e = absurd cc
+session_class Begin e = absurd cc
+session_class BeginReadOnly e = absurd cc
+session_class Commit e = absurd cc
+session_class Rollback e = absurd cc
+session_class AutocommitOff e = absurd cc
+session_class TrxLocal e = absurd cc
+session_class Ddl e = absurd cc
+session_class Forbidden e = absurd cc
+session_class Other e = absurd cc
+
+no_session : {class : Class} → SetsSession class → is_session class ≡ false → ⊥
+no_session sets e = absurd cc
+no_session sets_autocommit e = absurd cc
+
+pub recorded : (config : Config) (command : Command) (outcome : Outcome) (link : ℕ) (said : LinkStep) (past : List Item) → pending past ≡ Some command
+    → IsRecorded config command outcome (recording_of config past outcome) (Comes link said ∷ past)
+recorded config command outcome link said past p =
+    subst (λ (its : Option Command). IsRecorded config command outcome
+    (recording_by (is_session (class_by_pending its)) (is_some (kept_on past)) (not (nat_lt (length (accepted past)) config.history_limit)) outcome)
+    (Comes link said ∷ past)) (sym p)
+    (by_values (is_session (class_of_command command)) refl (kept_on past) refl (nat_lt (length (accepted past)) config.history_limit) refl outcome)
+  where
+    by_values : (its : Bool) → is_session (class_of_command command) ≡ its → (kept : Option ℕ) → kept_on past ≡ kept
+        → (room : Bool) → nat_lt (length (accepted past)) config.history_limit ≡ room → (outcome : Outcome)
+        → IsRecorded config command outcome (recording_by its (is_some kept) (not room) outcome) (Comes link said ∷ past)
+    by_values false s kept k room l outcome = λ set. no_session set.class s
+    by_values true s (Some on) k room l outcome = λ set. let clash : None ≡ Some on = sym set.free ∙ k in absurd cc
+    by_values true s None k true l (Failed code) = λ set. let clash : Failed code ≡ Done set.status = set.done in absurd cc
+    by_values true s None k false l (Failed code) = λ set. let clash : Failed code ≡ Done set.status = set.done in absurd cc
+    by_values true s None k true l (Done status) = (
+      record { class = session_class (class_of_command command) s; status = status; done = refl; free = k },
+      ltb-true (length (accepted past)) config.history_limit l,
+    )
+    by_values true s None k false l (Done status) = (
+      record { class = session_class (class_of_command command) s; status = status; done = refl; free = k },
+      elim (cases_lt (length (accepted past)) config.history_limit) [
+        | inl below ↦
+            let clash : false ≡ true = sym l ∙ lt-ltb (length (accepted past)) config.history_limit below in absurd cc
+        | inr full ↦ full
+      ],
+    )
 
 -- The reply to the pending command
 
@@ -321,7 +446,7 @@ module _ (config : Config) (past : List Item) (link : ℕ) (e : Exchange) (comma
   pub wrong_caused : progress e.kind e.sofar payload ≡ None
       → Caused config (Drops link BadReply ∷ []) (Comes link (steps.Lost losses.BadReply) ∷ past)
   wrong_caused p =
-      drops {link = link} {cause = BadReply} (
+      drops {link = link} {cause = BadReply} next.arrived.goes (
         inl (command, payload, of_reply (steps.Lost losses.BadReply), no_reply_so past link e payload rest number next.arrived command.kind next.kind p),
         next.arrived.has,
       )
@@ -351,6 +476,7 @@ module _ (config : Config) (past : List Item) (link : ℕ) (e : Exchange) (comma
     is_passed : IsPassed config (reply_number past) link command form (Comes link said ∷ past)
     is_passed = record {
       came = refl;
+      has = next.arrived.has;
       of_reply = of_reply said;
       in_form = sym (ap (client_reply command.kind prepared_handle) came_is ∙ grown);
       counts = next.its.counts;
@@ -359,28 +485,52 @@ module _ (config : Config) (past : List Item) (link : ℕ) (e : Exchange) (comma
     pub owes_then : exchange link (Comes link said ∷ past) ≡ left_by far (with_part payload number e)
     owes_then = leaves past link e payload rest number next.arrived its far r p
 
-    pub reply_caused : Caused config (after_answer link command form far (is_some_byte rest) (reply_number past)) (Comes link said ∷ past)
-    reply_caused = by_far far p owes_then
-      where
-        -- a byte behind the last one in the same piece costs the link
-        byte_behind : (outcome : Outcome) (item : LinkStep) (rest : List ℕ)
-            → first_payload SERVER_PAYLOAD e.next (link_held link past) ≡ Whole payload number rest
-            → IsReply e.kind (e.sofar ++ payload ∷ []) outcome → exchange link (Comes link item ∷ past) ≡ None
-            → Caused config (unasked link (is_some_byte rest)) (Puts (Tells (reply_number past) (Passes link command form (Some outcome))) ∷ Comes link item ∷ past)
-        byte_behind outcome item [] f reply none = nothing
-        byte_behind outcome item (byte ∷ rest) f reply none =
-            drops {link = link} {cause = Unasked}
-            ((earlier (behind_reply {e = e} {payload = payload} {rest = rest} {byte = byte} {number = number} outcome next.arrived.owes f reply), none), next.arrived.has)
+  -- where it ends
+  module _ (its : Role) (outcome : Outcome) (r : role e.kind e.sofar payload ≡ Some its) (p : progress e.kind e.sofar payload ≡ Some (Ends outcome)) where
+    abbrev whole : LinkStep
+    whole = said its (Ends outcome) r p
 
-        by_far : (its_far : Progress) → progress e.kind e.sofar payload ≡ Some its_far
-            → exchange link (Comes link said ∷ past) ≡ left_by its_far (with_part payload number e)
-            → Caused config (after_answer link command form its_far (is_some_byte rest) (reply_number past)) (Comes link said ∷ past)
-        by_far More p now =
-            let begins = (progress_is_exact e.kind e.sofar payload).more.0 p in
-            let begins : Begins command.kind (e.sofar ++ payload ∷ []) = rw next.kind at begins in
-            tells (is_passed, subst (Begins command.kind) (sym came_is) begins) nothing
-        by_far (Ends outcome) p now =
-            let reply : IsReply e.kind (e.sofar ++ payload ∷ []) outcome = ((progress_is_exact e.kind e.sofar payload).whole outcome).0 p in
-            let its_reply : IsReply command.kind (e.sofar ++ payload ∷ []) outcome = rw next.kind at reply in
-            tells (is_passed, subst (λ (list : List Payload). IsReply command.kind list outcome) (sym came_is) its_reply, now)
-            (byte_behind outcome said rest next.arrived.begins reply now)
+    abbrev its_form : Payload
+    its_form = form its (Ends outcome) r p
+
+    ends_so : IsReply command.kind (came_on link (Comes link whole ∷ past)) outcome
+    ends_so =
+        let reply = ((progress_is_exact e.kind e.sofar payload).whole outcome).0 p in
+        let reply : IsReply command.kind (e.sofar ++ payload ∷ []) outcome = rw next.kind at reply in
+        subst (λ (list : List Payload). IsReply command.kind list outcome) (sym (came_is its (Ends outcome) r p)) reply
+
+    a_byte : Caused config (unasked link (is_some_byte rest)) (Comes link whole ∷ past)
+    a_byte = byte_behind config past link e payload rest number next.arrived its outcome r p
+
+    -- the session is kept on the link, and gives up the others
+    keeping_caused : HasSet command outcome (Comes link whole ∷ past) × (config.history_limit ≤ length (accepted past)) → Caused config
+        (after_keeping true link (kept_on past) (links past) ++ unasked link (is_some_byte rest))
+        (Puts (Tells (reply_number past) (Passes link command its_form (Some outcome) Keeps)) ∷ Comes link whole ∷ past)
+    keeping_caused its_full =
+        subst (λ (kept : Option ℕ). Caused config (after_keeping true link kept (links past) ++ unasked link (is_some_byte rest))
+        (Puts (Tells (reply_number past) (Passes link command its_form (Some outcome) Keeps)) ∷ Comes link whole ∷ past)) (sym its_full.0.free)
+        (others_caused config past (Puts (Tells (reply_number past) (Passes link command its_form (Some outcome) Keeps)) ∷ Comes link whole ∷ past) link
+        (unasked link (is_some_byte rest)) refl (fills its_full)
+        (unasked_stays config (Puts (Tells (reply_number past) (Passes link command its_form (Some outcome) Keeps)) ∷ Comes link whole ∷ past) link (is_some_byte rest)
+        (unasked_told config (Comes link whole ∷ past) link (is_some_byte rest) (reply_number past) (Passes link command its_form (Some outcome) Keeps) a_byte)))
+
+    ended_caused : (recording : Recording) → IsRecorded config command outcome recording (Comes link whole ∷ past)
+        → Caused config (Tells (reply_number past) (Passes link command its_form (Some outcome) recording) ∷ unasked link (is_some_byte rest)) (Comes link whole ∷ past)
+    ended_caused Nothing its_recorded =
+        tells (is_passed its (Ends outcome) r p, ends_so, owes_then its (Ends outcome) r p, its_recorded)
+        (unasked_told config (Comes link whole ∷ past) link (is_some_byte rest) (reply_number past) (Passes link command its_form (Some outcome) Nothing) a_byte)
+    ended_caused Accepts its_recorded =
+        tells (is_passed its (Ends outcome) r p, ends_so, owes_then its (Ends outcome) r p, its_recorded)
+        (unasked_told config (Comes link whole ∷ past) link (is_some_byte rest) (reply_number past) (Passes link command its_form (Some outcome) Accepts) a_byte)
+    ended_caused Keeps its_recorded =
+        tells (is_passed its (Ends outcome) r p, ends_so, owes_then its (Ends outcome) r p, its_recorded) (keeping_caused its_recorded)
+
+  pub reply_caused : (its : Role) (far : Progress) (r : role e.kind e.sofar payload ≡ Some its) (p : progress e.kind e.sofar payload ≡ Some far)
+      → Caused config (after_answer link command (form its far r p) far (is_some_byte rest) (reply_number past) (λ outcome. recording_of config past outcome))
+      (Comes link (said its far r p) ∷ past)
+  reply_caused its More r p =
+      let begins = (progress_is_exact e.kind e.sofar payload).more.0 p in
+      let begins : Begins command.kind (e.sofar ++ payload ∷ []) = rw next.kind at begins in
+      tells (is_passed its More r p, subst (Begins command.kind) (sym (came_is its More r p)) begins) nothing
+  reply_caused its (Ends outcome) r p =
+      ended_caused its outcome r p (recording_of config past outcome) (recorded config command outcome link (said its (Ends outcome) r p) past next.pending)

@@ -15,9 +15,9 @@ use Rattle.rws_link.specs.declared.step.LinkStep.{LinkStep}
 use Rattle.rws_link.specs.declared.step.LinkStep.TheVariants as steps
 use Rattle.rws_link.specs.Stepping.{LinkState, Awaits, Exchange}
 use Rattle.rws_record.specs.Item.{Item, Purpose, Put}
-use Rattle.rws_record.specs.Item.Item.{Accepted, TurnsAway, Began, ClientBytes, LinkReady, LinkBytes, ClientGone, LinkLost, Comes, Puts}
+use Rattle.rws_record.specs.Item.Item.{Accepted, TurnsAway, Began, ClientBytes, LinkReady, LinkBytes, ClientGone, LinkLost, Ticks, Comes, Puts}
 use Rattle.rws_record.specs.Item.Put.{Hands, Tells, Routes, Opens, LogsInto, Sends, Drops, Closes}
-use Rattle.rws_record.specs.Item.Purpose.{Prepares, Asks}
+use Rattle.rws_record.specs.Item.Purpose.{Prepares, Asks, Plays}
 use Rattle.rws_record.specs.Values.{asked_on, awaited, is_up, kind_of, linked, prepared_by}
 use Rattle.rws_record.specs.Record.{IsBeginning, IsInput, IsRecord}
 use Rattle.rws_record.specs.Record.IsRecord.{begins, steps as goes, answers as answered, hears, starves}
@@ -25,7 +25,7 @@ use Rattle.rws_record.proofs.LinkedLemmas.{Says, awaits_asked}
 use Rattle.rws_record.proofs.LinkedLemmas.Says.{answers, enters, hurries, fails, breaks, part, garbled, wrong, again}
 use Rattle.rws_record.proofs.StepLemmas.{Due, Step, of_next}
 use Rattle.rws_record.proofs.StepLemmas.Due.{comes, connects, takes}
-use Rattle.rws_record.proofs.StepLemmas.Step.{pays, asks, prepares, sends, floods, reads}
+use Rattle.rws_record.proofs.StepLemmas.Step.{pays, asks, prepares, plays, sends, floods, reads}
 use Rattle.rws_laws.specs.Servers.{WasPrepared, came_on}
 use Rattle.rws_laws.specs.Servers.WasPrepared.{with_session, as_ready, by_reply, since}
 use Rattle.rws_laws.proofs.CameLemmas.{Came, legal_came}
@@ -59,6 +59,7 @@ module _ (past : List Item) (from : ℕ) (came : Came past) (before : ArePrepare
     part_now (Ends (Failed code)) asked p a u = since (before from u)
     part_now (Ends (Done status)) None p a u = since (before from u)
     part_now (Ends (Done status)) (Some (Asks command)) p a u = since (before from u)
+    part_now (Ends (Done status)) (Some (Plays command)) p a u = since (before from u)
     part_now (Ends (Done status)) (Some Prepares) p a u = whole_now status p a
 
   said_now : (state : LinkState) (said : LinkStep) → linked from past ≡ state → Says state said
@@ -96,7 +97,7 @@ put_prepared past (Opens opened server login) before = λ link u. by_test link (
     by_test link false u = since (before link u)
 put_prepared past (Hands packets) before = λ link u. since (before link u)
 put_prepared past (Tells number tell) before = λ link u. since (before link u)
-put_prepared past (Routes login) before = λ link u. since (before link u)
+put_prepared past Routes before = λ link u. since (before link u)
 put_prepared past (LogsInto to packets) before = λ link u. since (before link u)
 put_prepared past (Sends to purpose) before = λ link u. since (before link u)
 put_prepared past (Drops gone cause) before = λ link u. since (before link u)
@@ -111,9 +112,10 @@ due_prepared (takes p f) came before = λ link u. since (before link u)
 step_prepared : {config : Config} {past : List Item} {item : Item} → Step config past item → Came past → ArePrepared past
     → ArePrepared (item ∷ past)
 step_prepared {past = past} (pays {put = put} o) came before = put_prepared past put before
-step_prepared {past = past} (asks {login = login} o n p k l) came before = put_prepared past (Routes login) before
+step_prepared {past = past} (asks o n p k l) came before = put_prepared past Routes before
 step_prepared {past = past} (prepares {link = to} o n k c) came before = put_prepared past (Sends to Prepares) before
-step_prepared {past = past} (sends {link = to} {command = command} o n p s k c) came before = put_prepared past (Sends to (Asks command)) before
+step_prepared {past = past} (plays {link = to} {command = command} o n k c s) came before = put_prepared past (Sends to (Plays command)) before
+step_prepared {past = past} (sends {link = to} {command = command} o n p s k c d) came before = put_prepared past (Sends to (Asks command)) before
 step_prepared (floods o n p above) came before = λ link u. since (before link u)
 step_prepared (reads o n due) came before = due_prepared due came before
 
@@ -128,15 +130,16 @@ input_prepared past (ClientBytes bytes) input before = λ link u. since (before 
 input_prepared past (LinkBytes from bytes) input before = λ link u. since (before link u)
 input_prepared past ClientGone input before = λ link u. since (before link u)
 input_prepared past (LinkLost gone) input before = λ link u. since (before link u)
+input_prepared past (Ticks reading) input before = λ link u. since (before link u)
 input_prepared past _ input before = absurd input
 
 begins_prepared : (item : Item) → IsBeginning item → ArePrepared (item ∷ [])
-begins_prepared (Accepted session scramble) its = λ link u. absurd cc
+begins_prepared (Accepted session scramble reading) its = λ link u. absurd cc
 begins_prepared (TurnsAway told) its = λ link u. absurd cc
-begins_prepared (Began first server) its = λ link u. by_test link (first == link) refl u
+begins_prepared (Began first server reading) its = λ link u. by_test link (first == link) refl u
   where
-    by_test : (link : ℕ) (test : Bool) → (first == link) ≡ test → (if test then true else false) ≡ true → WasPrepared link (Began first server ∷ [])
-    by_test link true t u = subst (λ (l : ℕ). WasPrepared l (Began first server ∷ [])) (eqb-true first link t) with_session
+    by_test : (link : ℕ) (test : Bool) → (first == link) ≡ test → (if test then true else false) ≡ true → WasPrepared link (Began first server reading ∷ [])
+    by_test link true t u = subst (λ (l : ℕ). WasPrepared l (Began first server reading ∷ [])) (eqb-true first link t) with_session
     by_test link false t u = absurd cc
 begins_prepared _ its = absurd its
 

@@ -1,25 +1,34 @@
 -- A step of a legal record keeps what is known of the pending command: that it came of the client, where it was sent, what
 -- was told of its reply, and what is awaited.
-use Rattle.std.proofs.Common.{◌≡◌, ℕ, Bool, true, false, List, [], ◌∷◌, ◌++◌, map, drop, refl, sym, ap, subst, ◌∙◌, append-nil, Option, Some, None}
-use Rattle.std.specs.Prelude.{◌≢◌, if◌then◌else◌}
+use Rattle.std.proofs.Common.{◌≡◌, ℕ, Bool, true, false, List, [], ◌∷◌, ◌++◌, map, drop, refl, sym, ap, subst, ◌∙◌, Option, Some, None}
+use Rattle.std.specs.Prelude.{◌≢◌, ◌==◌, if◌then◌else◌}
+use Rattle.std.proofs.lemmas.Bool.{eqb-true}
 use Rattle.rws_wire.specs.Packets.{number_behind}
 use Rattle.rws_wire.specs.declared.drop_cause.DropCause.{DropCause}
-use Rattle.rws_wire.specs.declared.drop_cause.DropCause.TheVariants.{End}
+use Rattle.rws_wire.specs.declared.drop_cause.DropCause.TheVariants.{End, Kept}
 use Rattle.rws_reply.specs.Replies.{Payload}
+use Rattle.rws_native.specs.declared.login.Login.{Login}
+use Rattle.rws_route.specs.declared.destination.Target.{Target}
+use Rattle.rws_route.specs.declared.destination.Target.TheVariants.{Primary, Replica, NoPrimary as Nowhere}
+use Rattle.rws_routing.specs.declared.routing.Routing.{Routing}
+use Rattle.rws_routing.specs.Routings.{is_at, lost, tried_by}
 use Rattle.rws_config.specs.declared.config.Config.{Config}
 use Rattle.rws_record.specs.declared.command.Command.{Command}
 use Rattle.rws_link.specs.Stepping.{Exchange}
 use Rattle.rws_record.specs.Item.{Item, Purpose, Put}
 use Rattle.rws_record.specs.Item.Item.{Puts}
-use Rattle.rws_record.specs.Item.Tell.{Passes}
-use Rattle.rws_record.specs.Item.Put.{Tells, Drops}
-use Rattle.rws_record.specs.Values.{pending, reply_number, told}
-use Rattle.rws_record.specs.Rules.{Loss, after_loss_by, is_loss, loss_of, after_loss, owed}
+use Rattle.rws_record.specs.Item.Recording.{Nothing}
+use Rattle.rws_record.specs.Item.Tell.{Passes, Owns, Refuses}
+use Rattle.rws_record.specs.Item.Put.{Hands, Tells, Routes, Opens, LogsInto, Sends, Drops, Closes}
+use Rattle.rws_record.specs.Values.{contains, goes_by, pending, reply_number, told, unless_link, without}
+use Rattle.rws_record.specs.Rules.{Loss, after_keeping, after_loss_by, after_route, is_loss, loss_of, after_loss, opening, owed, refusing}
+use Rattle.rws_record.proofs.WithoutLemmas.{without_has_less}
 use Rattle.rws_record.specs.Rules.Loss.{CutsReply, HidesOutcome, TakesState, EndsTransaction, StartsReplay, SendsElsewhere, IsForgotten}
 use Rattle.rws_laws.specs.Causes.{number_behind_all}
 use Rattle.rws_laws.specs.Client.Asked.{before}
+use Rattle.rws_laws.proofs.ListLemmas.{other_stays, stays_other}
 use Rattle.rws_laws.proofs.Sound.{SentBy, ToldBy, Asking, passed, WaitsBy, WaitsOn, same_some}
-use Rattle.rws_laws.proofs.Sound.WaitsOn.{prepares, replies}
+use Rattle.rws_laws.proofs.Sound.WaitsOn.{prepares, repeats, replies}
 use Rattle.rws_laws.proofs.Sound.ToldBy.{none_told, a_part, all}
 
 -- Numbers of a reply
@@ -40,7 +49,7 @@ still_asked p r t asks = λ command is.
 -- a payload that was told goes on with it
 pub asks_on : {config : Config} {past : List Item} (number link : ℕ) (command : Command) (payload : Payload)
     → pending past ≡ Some command → number ≡ number_behind_all (told past) command.number → Asking config past
-    → Asking config (Puts (Tells number (Passes link command payload None)) ∷ past)
+    → Asking config (Puts (Tells number (Passes link command payload None Nothing)) ∷ past)
 asks_on {past = past} number link command payload p n asks = λ its is.
     let now = asks its is in
     let same : command ≡ its = same_some command its (sym p ∙ is) in
@@ -74,10 +83,61 @@ told_sent list from sent pending none = rw (none.0, none.1) none_told
 
 -- Where it was sent
 
-pub sent_there : (up : ℕ → Bool) (command : Command) (pending : Option Command) (link : ℕ) (kept : Option ℕ) → pending ≡ Some command
-    → kept ≡ Some link → up link ≡ true → SentBy pending (Some link) kept up
-sent_there up command pending link kept p k u = λ other e.
-    (command, p, k ∙ e, subst (λ (l : ℕ). up l ≡ true) (same_some link other e) u)
+pub sent_there : (up : ℕ → Bool) (command : Command) (pending : Option Command) (link : ℕ) (goes : Option ℕ) (links : List ℕ)
+    → pending ≡ Some command → goes ≡ Some link → up link ≡ true → contains link links ≡ true → SentBy pending (Some link) goes up links
+sent_there up command pending link goes links p g u h = λ other e.
+    let same = same_some link other e in (
+      command,
+      p,
+      g ∙ e,
+      subst (λ (l : ℕ). up l ≡ true) same u,
+      subst (λ (l : ℕ). contains l links ≡ true) same h,
+    )
+
+-- A link is lost
+
+pub unless_other : (gone link : ℕ) (sent : Option ℕ) → sent ≡ Some link → (link == gone) ≡ false → unless_link gone sent ≡ Some link
+unless_other gone link sent s n = rw s (rw n refl)
+
+pub unless_before : (gone link : ℕ) (sent : Option ℕ) → unless_link gone sent ≡ Some link → (sent ≡ Some link) × ((link == gone) ≡ false)
+unless_before gone link None s = absurd cc
+unless_before gone link (Some other) s = by_test (other == gone) refl s
+  where
+    by_test : (test : Bool) → (other == gone) ≡ test → (if test then None else Some other) ≡ Some link
+        → (Some other ≡ Some link) × ((link == gone) ≡ false)
+    by_test true t s = absurd cc
+    by_test false t s =
+        let same : other ≡ link = same_some other link s in (s, subst (λ (l : ℕ). (l == gone) ≡ false) same t)
+
+lost_keeps : (test : Bool) (cleared r : Routing) → test ≡ false → (if test then cleared else r).assigned ≡ r.assigned
+lost_keeps true cleared r t = absurd cc
+lost_keeps false cleared r t = refl
+
+-- a command that was sent elsewhere goes on there
+pub goes_without : (kept : Option ℕ) (r : Routing) (gone link : ℕ) → goes_by kept r.assigned ≡ Some link → (link == gone) ≡ false
+    → goes_by kept (lost gone r).assigned ≡ Some link
+goes_without (Some other) r gone link g n = g
+goes_without None r gone link g n =
+    lost_keeps (is_at gone r.assigned) (record r { assigned = None; tried = tried_by r.target r.tried }) r (ap (is_at gone) g ∙ n) ∙ g
+
+pub without_sent : {pending : Option Command} {up : ℕ → Bool} (links : List ℕ) (sent kept : Option ℕ) (r : Routing) (gone : ℕ)
+    → SentBy pending sent (goes_by kept r.assigned) up links
+    → SentBy pending (unless_link gone sent) (goes_by kept (lost gone r).assigned) up (without gone links)
+without_sent links sent kept r gone its = λ link s.
+    let before = unless_before gone link sent s in
+    let there = its link before.0 in
+    (there.0, there.1, goes_without kept r gone link there.2 before.1, there.3, other_stays gone link links before.1 there.4)
+
+-- what was told is kept, where no reply is cut
+pub told_without : {list : List Payload} {from sent : Option ℕ} {pending : Option Command} (gone : ℕ) → from ≢ Some gone
+    → ToldBy list from sent pending → ToldBy list from (unless_link gone sent) pending
+told_without gone n none_told = none_told
+told_without gone n (a_part {told = list} {link = link} {pending = pending} some) = by_test (link == gone) refl
+  where
+    by_test : (test : Bool) → (link == gone) ≡ test → ToldBy list (Some link) (if test then None else Some link) pending
+    by_test true t = absurd (n (ap Some (eqb-true link gone t)))
+    by_test false t = a_part some
+told_without gone n all = all
 
 -- What is awaited
 
@@ -86,6 +146,7 @@ pub passes_same : {link : ℕ} {e : Exchange} {asked : Option Purpose} {up : Boo
     (owing now : List Put) → passed owing ≡ passed now → WaitsOn link e asked up pending sent told owing
     → WaitsOn link e asked up pending sent told now
 passes_same owing now same (prepares a u) = prepares a u
+passes_same owing now same (repeats a) = repeats a
 passes_same {told = list} owing now same (replies awaited) = replies (record {
   command = awaited.command;
   asked_it = awaited.asked_it;
@@ -96,9 +157,43 @@ passes_same {told = list} owing now same (replies awaited) = replies (record {
 })
 
 pub owes_same : {exchange : ℕ → Option Exchange} {asked : ℕ → Option Purpose} {up : ℕ → Bool} {pending : Option Command} {sent : Option ℕ} {told : List Payload}
-    (owing now : List Put) → passed owing ≡ passed now
-    → WaitsBy exchange asked up pending sent told owing → WaitsBy exchange asked up pending sent told now
-owes_same {told = list} owing now same waits = λ link e a. passes_same owing now same (waits link e a)
+    (links : List ℕ) (owing now : List Put) → passed owing ≡ passed now
+    → WaitsBy links exchange asked up pending sent told owing → WaitsBy links exchange asked up pending sent told now
+owes_same {told = list} links owing now same waits = λ link e has a. passes_same owing now same (waits link e has a)
+
+-- on the links that are left when one is lost
+still_there : {link : ℕ} {e : Exchange} {asked : Option Purpose} {up : Bool} {pending : Option Command} {sent : Option ℕ} {told : List Payload}
+    (gone : ℕ) (owing now : List Put) → passed owing ≡ passed now → (link == gone) ≡ false → WaitsOn link e asked up pending sent told owing
+    → WaitsOn link e asked up pending (unless_link gone sent) told now
+still_there gone owing now same n (prepares a u) = prepares a u
+still_there gone owing now same n (repeats a) = repeats a
+still_there {link = link} {sent = sent} {told = list} gone owing now same n (replies awaited) = replies (record {
+  command = awaited.command;
+  asked_it = awaited.asked_it;
+  kind = awaited.kind;
+  in_form = awaited.in_form ∙ ap (λ (more : List Payload). list ++ more) same;
+  waits = awaited.waits;
+  sent_there = unless_other gone link sent awaited.sent_there n;
+})
+
+pub without_waits : {exchange : ℕ → Option Exchange} {asked : ℕ → Option Purpose} {up : ℕ → Bool} {pending : Option Command} {sent : Option ℕ} {told : List Payload}
+    (links : List ℕ) (gone : ℕ) (owing now : List Put) → passed owing ≡ passed now → WaitsBy links exchange asked up pending sent told owing
+    → WaitsBy (without gone links) exchange asked up pending (unless_link gone sent) told now
+without_waits links gone owing now same waits = λ link e has a.
+    still_there gone owing now same (stays_other gone link links has) (waits link e (without_has_less gone link links has) a)
+
+passed_both : (first others : List Put) → passed (first ++ others) ≡ passed first ++ passed others
+passed_both [] others = refl
+passed_both (Tells number (Passes link command payload outcome recording) ∷ rest) others = ap (λ (l : List Payload). payload ∷ l) (passed_both rest others)
+passed_both (Tells number (Owns status) ∷ rest) others = passed_both rest others
+passed_both (Tells number (Refuses error) ∷ rest) others = passed_both rest others
+passed_both (Hands packets ∷ rest) others = passed_both rest others
+passed_both (Routes ∷ rest) others = passed_both rest others
+passed_both (Opens link server login ∷ rest) others = passed_both rest others
+passed_both (LogsInto link packets ∷ rest) others = passed_both rest others
+passed_both (Sends link purpose ∷ rest) others = passed_both rest others
+passed_both (Drops link cause ∷ rest) others = passed_both rest others
+passed_both (Closes reason ∷ rest) others = passed_both rest others
 
 -- what a loss brings passes nothing
 loss_passes : (loss : Loss) → passed (after_loss_by loss) ≡ []
@@ -110,30 +205,66 @@ loss_passes StartsReplay = refl
 loss_passes SendsElsewhere = refl
 loss_passes IsForgotten = refl
 
-pub lost_passes : (link : ℕ) (past : List Item) → passed (after_loss link past) ≡ []
-lost_passes link past = loss_passes (loss_of link past)
+pub lost_passes : (config : Config) (link : ℕ) (past : List Item) → passed (after_loss config link past) ≡ []
+lost_passes config link past = loss_passes (loss_of config link past)
 
-lossy_passes : (lossy : Bool) (link : ℕ) (past : List Item) → passed ((if lossy then after_loss link past else []) ++ []) ≡ []
-lossy_passes true link past = ap passed (append-nil (after_loss link past)) ∙ lost_passes link past
-lossy_passes false link past = refl
+lossy_passes : (lossy : Bool) (list others : List Put) → passed list ≡ [] → passed ((if lossy then list else []) ++ others) ≡ passed others
+lossy_passes true list others none = passed_both list others ∙ ap (λ (l : List Payload). l ++ passed others) none
+lossy_passes false list others none = refl
 
-pub drop_passes : (link : ℕ) (cause : DropCause) (past : List Item) → drop 1 (owed past) ≡ []
-    → passed (owed (Puts (Drops link cause) ∷ past)) ≡ []
-drop_passes link cause past d =
-    ap (λ (list : List Put). passed ((if is_loss cause then after_loss link past else []) ++ list)) d ∙ lossy_passes (is_loss cause) link past
+-- what follows a link that is given up passes nothing
+pub drop_passes : (config : Config) (link : ℕ) (cause : DropCause) (past : List Item)
+    → passed (owed config (Puts (Drops link cause) ∷ past)) ≡ passed (drop 1 (owed config past))
+drop_passes config link cause past =
+    lossy_passes (is_loss cause) (after_loss config link past) (drop 1 (owed config past)) (lost_passes config link past)
+
+others_pass : (list : List ℕ) → passed (map (λ link. Drops link Kept) list) ≡ []
+others_pass [] = refl
+others_pass (link ∷ others) = others_pass others
+
+-- and what follows a command that was sent
+pub keeping_passes : (keeping : Bool) (link : ℕ) (kept : Option ℕ) (list : List ℕ) → passed (after_keeping keeping link kept list) ≡ []
+keeping_passes true link None list = others_pass (without link list)
+keeping_passes true link (Some kept) list = refl
+keeping_passes false link kept list = refl
+
+-- and the worker's answer
+opening_passes : (link : Option ℕ) (next server : ℕ) (login : Option Login) → passed (opening link next server login) ≡ []
+opening_passes None next server (Some login) = refl
+opening_passes None next server None = refl
+opening_passes (Some link) next server login = refl
+
+refusing_passes : (late : Bool) (number : ℕ) → passed (refusing late number) ≡ []
+refusing_passes true number = refl
+refusing_passes false number = refl
+
+pub route_passes : (found : Target) (link : Option ℕ) (next : ℕ) (login : Option Login) (late : Bool) (number : ℕ)
+    → passed (after_route found link next login late number) ≡ []
+route_passes Nowhere link next login late number = refusing_passes late number
+route_passes (Primary server) link next login late number = opening_passes link next server login
+route_passes (Replica server) link next login late number = opening_passes link next server login
 
 pub farewells_pass : (list : List ℕ) → passed (map (λ link. Drops link End) list) ≡ []
 farewells_pass [] = refl
 farewells_pass (link ∷ others) = farewells_pass others
 
--- only the preamble's reply was awaited, since nothing is pending
+-- only the preamble's reply, or that to an entry of the history, was awaited, since nothing is pending
 pub none_waits : {link : ℕ} {e : Exchange} {asked : Option Purpose} {up : Bool} {pending : Option Command} {sent : Option ℕ} {told : List Payload}
     {owed : List Put} (now : Option Command) (where_now : Option ℕ) (list : List Payload) (owes : List Put)
     → pending ≡ None → WaitsOn link e asked up pending sent told owed → WaitsOn link e asked up now where_now list owes
 none_waits now where_now list owes p (prepares a u) = prepares a u
+none_waits now where_now list owes p (repeats a) = repeats a
 none_waits now where_now list owes p (replies awaited) = let w = awaited.waits in absurd cc
 
 pub waits_none : {exchange : ℕ → Option Exchange} {asked : ℕ → Option Purpose} {up : ℕ → Bool} {pending : Option Command} {sent : Option ℕ} {told : List Payload}
+    {owed : List Put} (links : List ℕ) (now : Option Command) (where_now : Option ℕ) (list : List Payload) (owes : List Put)
+    → pending ≡ None → WaitsBy links exchange asked up pending sent told owed → WaitsBy links exchange asked up now where_now list owes
+waits_none links now where_now list owes p waits = λ link e has a. none_waits now where_now list owes p (waits link e has a)
+
+-- and since nothing was sent
+pub unsent_waits : {link : ℕ} {e : Exchange} {asked : Option Purpose} {up : Bool} {pending : Option Command} {sent : Option ℕ} {told : List Payload}
     {owed : List Put} (now : Option Command) (where_now : Option ℕ) (list : List Payload) (owes : List Put)
-    → pending ≡ None → WaitsBy exchange asked up pending sent told owed → WaitsBy exchange asked up now where_now list owes
-waits_none now where_now list owes p waits = λ link e a. none_waits now where_now list owes p (waits link e a)
+    → sent ≡ None → WaitsOn link e asked up pending sent told owed → WaitsOn link e asked up now where_now list owes
+unsent_waits now where_now list owes s (prepares a u) = prepares a u
+unsent_waits now where_now list owes s (repeats a) = repeats a
+unsent_waits now where_now list owes s (replies awaited) = let there = awaited.sent_there in absurd cc

@@ -1,15 +1,17 @@
 -- Each step of a legal record keeps it sound.
-use Rattle.std.proofs.Common.{◌≡◌, ℕ, ◌+◌, ◌<◌, Bool, true, false, List, [], ◌∷◌, length, refl, sym, ap, subst, ◌∙◌, arith, inl, inr, Some, None}
-use Rattle.std.specs.Prelude.{Contains, ◌&&◌, ◌⊎◌, ◌==◌, if◌then◌else◌}
+use Rattle.std.proofs.Common.{◌≡◌, ℕ, ◌+◌, ◌<◌, Bool, true, false, List, [], ◌∷◌, length, refl, sym, ap, subst, ◌∙◌, arith, inl, inr, Option, Some, None}
+use Rattle.std.specs.Prelude.{Contains, ◌&&◌, ◌==◌, if◌then◌else◌}
 use Rattle.std.proofs.lemmas.Bool.{eqb-true, eq-eqb}
 use Rattle.rws_wire.specs.declared.drop_cause.DropCause.TheVariants.{BadWire, BadReply, Unasked, Greeting, Plugin, Login as LoginFails}
 use Rattle.rws_wire.specs.Payloads.{first_payload}
 use Rattle.rws_wire.specs.Payloads.Beginning.{Whole}
-use Rattle.rws_native.specs.declared.login.Login.{Login}
+use Rattle.rws_pool.specs.declared.words.PoolWords.{PoolWords}
+use Rattle.rws_select.specs.declared.selector.Load.{Load}
+use Rattle.rws_route.specs.declared.destination.Target.{Target}
+use Rattle.rws_routing.specs.Routings.{finds_late, server_in}
 use Rattle.rws_front.specs.declared.step.FrontStep.{FrontStep}
 use Rattle.rws_front.specs.declared.step.FrontStep.TheVariants as fronts
 use Rattle.rws_front.specs.Connection.{step_of}
-use Rattle.rws_reply.specs.declared.kind.Kind.TheVariants.{Query as QueryReply}
 use Rattle.rws_reply.specs.declared.kind.Outcome.TheVariants.{Done, Failed}
 use Rattle.rws_reply.specs.declared.kind.Progress.{Progress}
 use Rattle.rws_reply.specs.declared.kind.Progress.TheVariants.{More, Whole as Ends}
@@ -25,13 +27,12 @@ use Rattle.rws_link.specs.declared.handshake.Handshake.{Handshake}
 use Rattle.rws_config.specs.declared.config.Config.{Config}
 use Rattle.rws_config.specs.declared.limits.TheConstants.{SERVER_PAYLOAD}
 use Rattle.rws_record.specs.declared.command.Command.{Command}
-use Rattle.rws_record.specs.Item.{Item, Put}
-use Rattle.rws_record.specs.Item.Item.{Accepted, TurnsAway, Began, ClientBytes, LinkReady, LinkBytes, ClientGone, LinkLost, Routed, Comes, Connects, Takes, Floods, Puts}
-use Rattle.rws_record.specs.Item.Purpose.{Prepares}
+use Rattle.rws_record.specs.Item.{Item, Purpose, Put}
+use Rattle.rws_record.specs.Item.Item.{Accepted, TurnsAway, Began, ClientBytes, LinkReady, LinkBytes, ClientGone, LinkLost, Ticks, Routed, Comes, Connects, Floods, Puts}
+use Rattle.rws_record.specs.Item.Purpose.{Prepares, Plays}
 use Rattle.rws_record.specs.Item.Put.{Routes, Drops}
-use Rattle.rws_record.specs.Judging.{judged}
-use Rattle.rws_record.specs.Values.{fronted, held, login_of, links, contains, kept_on, asked_on, awaited, exchange, is_up, kind_of, linked, link_held, unread, pending, sent_on, told, is_over, is_starved}
-use Rattle.rws_record.specs.Rules.{after_loss, after_connecting, after_flood, after_preparing, flood_limit, drop_cause, farewells, is_free, is_ready, is_same, owed, unasked}
+use Rattle.rws_record.specs.Values.{fronted, goes_on, held, login_of, link_to, links, contains, kept_on, now, reply_number, routing, asked_on, awaited, exchange, is_up, kind_of, linked, link_held, unread, pending, sent_on, told, is_over, is_starved}
+use Rattle.rws_record.specs.Rules.{after_loss, after_connecting, after_flood, after_played, after_preparing, flood_limit, found_in, drop_cause, farewells, is_free, is_ready, is_same, owed, unasked}
 use Rattle.rws_record.specs.Record.{IsBeginning, IsRecord, IsInput}
 use Rattle.rws_record.specs.Record.IsRecord.{begins, steps, answers as answered, hears, starves}
 use Rattle.rws_record.proofs.LinkedLemmas.{Says, awaits_asked}
@@ -39,18 +40,17 @@ use Rattle.rws_record.proofs.LinkedLemmas.Says.{answers, enters, hurries, fails,
 use Rattle.rws_record.proofs.StepLemmas.{Due, Step, of_next, rests_owing_nothing}
 use Rattle.rws_record.proofs.WantLemmas.{input_starved, step_starved}
 use Rattle.rws_record.proofs.StepLemmas.Due.{comes, connects, takes}
-use Rattle.rws_record.proofs.StepLemmas.Step.{pays, asks, prepares as prepares_it, sends, floods, reads}
+use Rattle.rws_record.proofs.StepLemmas.Step.{pays, asks, prepares as prepares_it, plays, sends, floods, reads}
 use Rattle.rws_record.proofs.OpeningLemmas.{asks_owing_nothing}
 use Rattle.rws_laws.specs.Client.{Flooded, IsSaid}
 use Rattle.rws_laws.specs.Client.Flooded.{flooded}
-use Rattle.rws_laws.specs.Client.Asked.{before}
 use Rattle.rws_laws.specs.Servers.{LoginCame, LoginFailed}
 use Rattle.rws_laws.specs.Servers.LoginFailed.{no_greeting, not_served, error_came, other_plugin, no_answer, bad_question}
-use Rattle.rws_laws.specs.Servers.LogsOn.{logs_on as goes_on}
+use Rattle.rws_laws.specs.Servers.LogsOn.{logs_on as logs_so}
 use Rattle.rws_laws.specs.Servers.NotEntered.{not_entered}
 use Rattle.rws_laws.specs.Servers.IsGarbled.{garbled_login, garbled as garbles}
 use Rattle.rws_laws.specs.Servers.WasUnasked.{behind_login, earlier}
-use Rattle.rws_laws.specs.Causes.{IsRoutable}
+use Rattle.rws_laws.specs.Servers.Lost.{closed}
 use Rattle.rws_laws.proofs.AskedLemmas.{AskedNow, legal_asked}
 use Rattle.rws_laws.proofs.AskedLemmas.AskedNow.{asked_now}
 use Rattle.rws_laws.proofs.EnteringLemmas.{Entering, IsEntering, is_entering, legal_entering}
@@ -59,15 +59,16 @@ use Rattle.rws_laws.proofs.FrontLemmas.{front_says, said_so, steady, taken_so}
 use Rattle.rws_laws.proofs.HandshakeLemmas.{answers_so, fails_so, takes_so}
 use Rattle.rws_laws.proofs.CameLemmas.{Came, after_answer_is, after_entering_is, bytes_keep, legal_came, loss_leaves, ready_keeps}
 use Rattle.rws_laws.proofs.LostLemmas.{AreUnasked, its_login, legal_unasked, was_unasked}
-use Rattle.rws_laws.proofs.Sound.{Caused, Links, passed, AwaitedBy, WaitsOn, Sound, kept_there, goes_with, goes_with_one, links_keep, same_some}
-use Rattle.rws_laws.proofs.Sound.WaitsOn.{prepares, replies}
-use Rattle.rws_laws.proofs.Sound.Caused.{nothing, drops, opens, logs_on}
-use Rattle.rws_laws.proofs.Sound.Links.{none_yet, has_one}
+use Rattle.rws_laws.proofs.Sound.{Caused, passed, AwaitedBy, WaitsOn, Sound, not_soon, same_some}
+use Rattle.rws_laws.proofs.Sound.WaitsOn.{prepares, repeats, replies}
+use Rattle.rws_laws.proofs.Sound.Caused.{nothing, drops, logs_on}
 use Rattle.rws_laws.proofs.Sound.ToldBy.{none_told}
-use Rattle.rws_laws.proofs.LinksLemmas.{links_input}
-use Rattle.rws_laws.proofs.ReplyLemmas.{passes_same, still_asked, owes_same, lost_passes, farewells_pass}
-use Rattle.rws_laws.proofs.OwedLemmas.{Arrived, farewells_caused, leaves, loss_caused, flood_caused, misprepared_caused, preparing_caused, said_caused, turning_caused, CameNext, said, wrong_caused}
-use Rattle.rws_laws.proofs.GivenLemmas.{clean, coming_sent, prepares_sound, put_sound, ready_sent, reply_sound, routes_sound, send_sound, take_sound}
+use Rattle.rws_laws.proofs.LinksLemmas.{cut_closes, farewells_caused}
+use Rattle.rws_laws.proofs.ListLemmas.{has_it}
+use Rattle.rws_laws.proofs.RoutedLemmas.{route_caused}
+use Rattle.rws_laws.proofs.ReplyLemmas.{passes_same, route_passes, still_asked, owes_same, lost_passes, farewells_pass, told_without, without_sent, without_waits}
+use Rattle.rws_laws.proofs.OwedLemmas.{Arrived, leaves, loss_caused, flood_caused, misprepared_caused, preparing_caused, misplayed_caused, playing_caused, said_caused, turning_caused, CameNext, said, wrong_caused}
+use Rattle.rws_laws.proofs.GivenLemmas.{clean, coming_sent, prepares_sound, plays_sound, put_sound, ready_sent, reply_sound, routes_sound, send_sound, take_sound}
 
 -- where a link is free
 both_hold : (a b : Bool) → (a && b) ≡ true → (a ≡ true) × (b ≡ true)
@@ -103,6 +104,11 @@ preparing_passes link More behind = refl
 preparing_passes link (Ends (Done status)) behind = unasked_passes link behind
 preparing_passes link (Ends (Failed code)) behind = refl
 
+played_passes : (link : ℕ) (far : Progress) (behind : Bool) → passed (after_played link far behind) ≡ []
+played_passes link More behind = refl
+played_passes link (Ends (Done status)) behind = unasked_passes link behind
+played_passes link (Ends (Failed code)) behind = refl
+
 connecting_passes : (said : FrontStep) → passed (after_connecting said) ≡ []
 connecting_passes (fronts.Send packets) = refl
 connecting_passes (fronts.LoggedIn login) = refl
@@ -111,38 +117,34 @@ connecting_passes (fronts.Command payload) = refl
 connecting_passes fronts.Idle = refl
 
 module _ (config : Config) (past : List Item) (sound : Sound config past) (came : Came past) (unasked : AreUnasked past) (entering : IsEntering config past)
-    (o : owed past ≡ []) (n : is_over past ≡ false) where
+    (o : owed config past ≡ []) (n : is_over past ≡ false) where
   -- What a link says
 
-  its_links : (link : ℕ) (said : LinkStep) → Links (Comes link said ∷ past)
-  its_links link said = links_keep (Comes link said) o refl refl (λ is. is) sound.one_link
-
   still_waits : (link : ℕ) (said : LinkStep) (owes : List Put) → passed owes ≡ [] → (other : ℕ) (x : Exchange)
-      → (link == other) ≡ false → exchange other past ≡ Some x
+      → (link == other) ≡ false → contains other (links past) ≡ true → exchange other past ≡ Some x
       → WaitsOn other x (asked_on other past) (is_up other (Comes link said ∷ past)) (pending past) (sent_on past) (told past) owes
-  still_waits link said owes passes other x t a =
-      rw t (passes_same (owed past) owes (ap passed o ∙ sym passes) (sound.waits other x a))
+  still_waits link said owes passes other x t has a =
+      rw t (passes_same (owed config past) owes (ap passed o ∙ sym passes) (sound.waits other x has a))
 
   -- one that owes no reply then, and for which nothing is passed on
-  silent_sound : (link : ℕ) (said : LinkStep) → awaited (step (linked link past)).after ≡ None → passed (owed (Comes link said ∷ past)) ≡ []
-      → Caused config (owed (Comes link said ∷ past)) (Comes link said ∷ past) → Sound config (Comes link said ∷ past)
+  silent_sound : (link : ℕ) (said : LinkStep) → awaited (step (linked link past)).after ≡ None → passed (owed config (Comes link said ∷ past)) ≡ []
+      → Caused config (owed config (Comes link said ∷ past)) (Comes link said ∷ past) → Sound config (Comes link said ∷ past)
   silent_sound link said none passes owes = record {
-    one_link = its_links link said;
-    sent = coming_sent past link said sound.sent;
-    telling = sound.telling;
+    sent = coming_sent config past link said sound.sent;
+    telling = λ n soon. sound.telling n (not_soon o);
     asks = still_asked refl refl refl sound.asks;
-    waits = λ other x a. by_link other x (link == other) refl a;
+    waits = λ other x has a. by_link other x (link == other) refl has a;
     owes = owes;
   }
     where
-      by_link : (other : ℕ) (x : Exchange) (same : Bool) → (link == other) ≡ same
+      by_link : (other : ℕ) (x : Exchange) (same : Bool) → (link == other) ≡ same → contains other (links past) ≡ true
           → awaited (if same then (step (linked other past)).after else linked other past) ≡ Some x
-          → WaitsOn other x (asked_on other past) (is_up other (Comes link said ∷ past)) (pending past) (sent_on past) (told past) (owed (Comes link said ∷ past))
-      by_link other x true t a =
+          → WaitsOn other x (asked_on other past) (is_up other (Comes link said ∷ past)) (pending past) (sent_on past) (told past) (owed config (Comes link said ∷ past))
+      by_link other x true t has a =
           let same : link ≡ other = eqb-true link other t in
           let none : awaited (step (linked other past)).after ≡ None = subst (λ (l : ℕ). awaited (step (linked l past)).after ≡ None) same none in
           let clash : None ≡ Some x = sym none ∙ a in absurd cc
-      by_link other x false t a = still_waits link said (owed (Comes link said ∷ past)) passes other x t a
+      by_link other x false t has a = still_waits link said (owed config (Comes link said ∷ past)) passes other x t has a
 
   -- the link that the session has says that it is lost, for a reason that is known
   loses_it : (link : ℕ) (cause : LinkCause) → Says (linked link past) (steps.Lost cause)
@@ -156,12 +158,6 @@ module _ (config : Config) (past : List Item) (sound : Sound config past) (came 
       let itself : (link == link) ≡ true = eq-eqb link link refl in
       rw itself (loss_leaves (linked link past) (steps.Lost cause) cause it refl)
 
-  its_contained : (link : ℕ) → Contains (links past) link → contains link (links past) ≡ true
-  its_contained link has =
-      let kept = kept_there sound.one_link link has in
-      let itself : (link == link) ≡ true = eq-eqb link link refl in
-      rw (goes_with_one link o n kept sound.one_link) (rw itself refl)
-
   unasked_sound : (link : ℕ) (cause : LinkCause) → Says (linked link past) (steps.Lost cause) → Contains (links past) link
       → linked link past ≡ IsLost cause → cause ≡ losses.Unasked → Sound config (Comes link (steps.Lost cause) ∷ past)
   unasked_sound link cause it has is same =
@@ -170,17 +166,17 @@ module _ (config : Config) (past : List Item) (sound : Sound config past) (came 
       subst (λ (c : LinkCause). exchange link (Comes link (steps.Lost c) ∷ past) ≡ None) same (lost_owes link cause it) in
       loses_it link cause it
       (subst (λ (c : LinkCause). Caused config (Drops link (drop_cause c) ∷ []) (Comes link (steps.Lost c) ∷ past)) (sym same)
-      (drops {link = link} {cause = Unasked} ((earlier (was_unasked link past is_so), none), has)))
+      (drops {link = link} {cause = Unasked} n ((earlier (was_unasked link past is_so), none), has)))
 
   arrived_now : (link : ℕ) (e : Exchange) (payload rest : Payload) (number : ℕ) → Contains (links past) link
       → linked link past ≡ Awaits e (link_held link past)
       → first_payload SERVER_PAYLOAD e.next (link_held link past) ≡ Whole payload number rest
       → Arrived past link e payload rest number
   arrived_now link e payload rest number has is f =
-      record { has = has; owes = ap awaited is; state = is; begins = f; came = came link e (ap awaited is) }
+      record { has = has; owes = ap awaited is; state = is; begins = f; came = came link e (ap awaited is); goes = n }
 
   came_next : (link : ℕ) (e : Exchange) (payload rest : Payload) (number : ℕ) → Arrived past link e payload rest number
-      → (awaits : AwaitedBy link e (asked_on link past) (pending past) (sent_on past) (told past) (owed past))
+      → (awaits : AwaitedBy link e (asked_on link past) (pending past) (sent_on past) (told past) (owed config past))
       → CameNext config past link e awaits.command payload rest number
   came_next link e payload rest number arrived awaits = record {
     arrived = arrived;
@@ -189,95 +185,117 @@ module _ (config : Config) (past : List Item) (sound : Sound config past) (came 
     pending = awaits.waits;
     sent = awaits.sent_there;
     in_form = clean config past sound o e awaits.command awaits.in_form;
-    telling = sound.telling;
+    telling = sound.telling n (not_soon o);
     its = sound.asks awaits.command awaits.waits;
   }
 
-  -- the preamble's reply
-  module _ (link : ℕ) (e : Exchange) (payload rest : Payload) (number : ℕ) (arrived : Arrived past link e payload rest number)
-      (asked : asked_on link past ≡ Some Prepares) (up : is_up link past ≡ false) where
-    its_kind : e.kind ≡ QueryReply
-    its_kind =
+  -- the reply to what the session sent by itself: the preamble, or an entry of the history
+  module _ (link : ℕ) (e : Exchange) (payload rest : Payload) (number : ℕ) (arrived : Arrived past link e payload rest number) where
+    its_kind : (purpose : Purpose) → asked_on link past ≡ Some purpose → e.kind ≡ kind_of purpose
+    its_kind purpose asked =
         let was = awaits_asked link past e (link_held link past) arrived.state in
-        let same : was.purpose ≡ Prepares = same_some was.purpose Prepares (sym was.is ∙ asked) in
+        let same : was.purpose ≡ purpose = same_some was.purpose purpose (sym was.is ∙ asked) in
         sym was.answered ∙ ap kind_of same
 
     abbrev the_said : Role → Progress → LinkStep
     the_said its far = steps.Part payload its far number (is_some_byte rest)
 
-    owed_then : (its : Role) (far : Progress) → owed (Comes link (the_said its far) ∷ past) ≡ after_preparing link far (is_some_byte rest)
-    owed_then its far = rw asked refl
+    abbrev WaitsThen : (its : Role) (other : ℕ) → Exchange → List Put → Type 0
+    WaitsThen its other x owes =
+        WaitsOn other x (asked_on other past) (is_up other (Comes link (the_said its More) ∷ past)) (pending past) (sent_on past) (told past) owes
 
-    on_passes : (its : Role) (far : Progress) → passed (owed (Comes link (the_said its far) ∷ past)) ≡ []
-    on_passes its far = ap passed (owed_then its far) ∙ preparing_passes link far (is_some_byte rest)
+    -- of which nothing is passed on
+    module _ (answer : Progress → List Put) (owed_then : (its : Role) (far : Progress) → owed config (Comes link (the_said its far) ∷ past) ≡ answer far)
+        (passes : (far : Progress) → passed (answer far) ≡ [])
+        (caused : (its : Role) (far : Progress) → role e.kind e.sofar payload ≡ Some its → progress e.kind e.sofar payload ≡ Some far
+        → Caused config (answer far) (Comes link (the_said its far) ∷ past))
+        (goes_on_waiting : (its : Role) (other : ℕ) (x : Exchange) (owes : List Put) → link ≡ other → WaitsThen its other x owes) where
+      on_passes : (its : Role) (far : Progress) → passed (owed config (Comes link (the_said its far) ∷ past)) ≡ []
+      on_passes its far = ap passed (owed_then its far) ∙ passes far
 
-    on_owes : (its : Role) (far : Progress) → role e.kind e.sofar payload ≡ Some its → progress e.kind e.sofar payload ≡ Some far
-        → Caused config (owed (Comes link (the_said its far) ∷ past)) (Comes link (the_said its far) ∷ past)
-    on_owes its far r p =
-        subst (λ (list : List Put). Caused config list (Comes link (the_said its far) ∷ past)) (sym (owed_then its far))
-        (preparing_caused config past link e payload rest number arrived its_kind asked its far r p)
+      on_owes : (its : Role) (far : Progress) → role e.kind e.sofar payload ≡ Some its → progress e.kind e.sofar payload ≡ Some far
+          → Caused config (owed config (Comes link (the_said its far) ∷ past)) (Comes link (the_said its far) ∷ past)
+      on_owes its far r p =
+          subst (λ (list : List Put). Caused config list (Comes link (the_said its far) ∷ past)) (sym (owed_then its far)) (caused its far r p)
 
-    more_waits : (its : Role) (other : ℕ) (x : Exchange) (same : Bool) → (link == other) ≡ same
-        → awaited (if same then (step (linked other past)).after else linked other past) ≡ Some x
-        → WaitsOn other x (asked_on other past) (is_up other (Comes link (the_said its More) ∷ past)) (pending past) (sent_on past) (told past)
-        (owed (Comes link (the_said its More) ∷ past))
-    more_waits its other x true t a =
-        let same : link ≡ other = eqb-true link other t in
-        prepares (subst (λ (l : ℕ). asked_on l past ≡ Some Prepares) same asked)
-        (rw t (subst (λ (l : ℕ). is_up l past ≡ false) same up))
-    more_waits its other x false t a =
-        still_waits link (the_said its More) (owed (Comes link (the_said its More) ∷ past)) (on_passes its More) other x t a
+      more_waits : (its : Role) (other : ℕ) (x : Exchange) (same : Bool) → (link == other) ≡ same → contains other (links past) ≡ true
+          → awaited (if same then (step (linked other past)).after else linked other past) ≡ Some x
+          → WaitsThen its other x (owed config (Comes link (the_said its More) ∷ past))
+      more_waits its other x true t has a =
+          goes_on_waiting its other x (owed config (Comes link (the_said its More) ∷ past)) (eqb-true link other t)
+      more_waits its other x false t has a =
+          still_waits link (the_said its More) (owed config (Comes link (the_said its More) ∷ past)) (on_passes its More) other x t has a
 
-    prepared_sound : (its : Role) (far : Progress) → role e.kind e.sofar payload ≡ Some its → progress e.kind e.sofar payload ≡ Some far
-        → Sound config (Comes link (the_said its far) ∷ past)
-    prepared_sound its (Ends outcome) r p =
-        let itself : (link == link) ≡ true = eq-eqb link link refl in
-        let none : awaited (step (linked link past)).after ≡ None =
-        rw itself at (leaves past link e payload rest number arrived its (Ends outcome) r p) in
-        silent_sound link (the_said its (Ends outcome)) none (on_passes its (Ends outcome)) (on_owes its (Ends outcome) r p)
-    prepared_sound its More r p = record {
-      one_link = its_links link (the_said its More);
-      sent = coming_sent past link (the_said its More) sound.sent;
-      telling = sound.telling;
-      asks = still_asked refl refl refl sound.asks;
-      waits = λ other x a. more_waits its other x (link == other) refl a;
-      owes = on_owes its More r p;
-    }
+      own_sound : (its : Role) (far : Progress) → role e.kind e.sofar payload ≡ Some its → progress e.kind e.sofar payload ≡ Some far
+          → Sound config (Comes link (the_said its far) ∷ past)
+      own_sound its (Ends outcome) r p =
+          let itself : (link == link) ≡ true = eq-eqb link link refl in
+          let none : awaited (step (linked link past)).after ≡ None =
+          rw itself at (leaves past link e payload rest number arrived its (Ends outcome) r p) in
+          silent_sound link (the_said its (Ends outcome)) none (on_passes its (Ends outcome)) (on_owes its (Ends outcome) r p)
+      own_sound its More r p = record {
+        sent = coming_sent config past link (the_said its More) sound.sent;
+        telling = λ n soon. sound.telling n (not_soon o);
+        asks = still_asked refl refl refl sound.asks;
+        waits = λ other x has a. more_waits its other x (link == other) refl has a;
+        owes = on_owes its More r p;
+      }
+
+    prepared_sound : asked_on link past ≡ Some Prepares → is_up link past ≡ false → (its : Role) (far : Progress)
+        → role e.kind e.sofar payload ≡ Some its → progress e.kind e.sofar payload ≡ Some far → Sound config (Comes link (the_said its far) ∷ past)
+    prepared_sound asked up =
+        own_sound (λ far. after_preparing link far (is_some_byte rest)) (λ its far. rw asked refl)
+        (λ far. preparing_passes link far (is_some_byte rest))
+        (preparing_caused config past link e payload rest number arrived (its_kind Prepares asked) asked)
+        (λ its other x owes same.
+        let t : (link == other) ≡ true = eq-eqb link other same in
+        prepares (subst (λ (l : ℕ). asked_on l past ≡ Some Prepares) same asked) (rw t (subst (λ (l : ℕ). is_up l past ≡ false) same up)))
+
+    played_sound : (command : Command) → asked_on link past ≡ Some (Plays command) → (its : Role) (far : Progress)
+        → role e.kind e.sofar payload ≡ Some its → progress e.kind e.sofar payload ≡ Some far → Sound config (Comes link (the_said its far) ∷ past)
+    played_sound command asked =
+        own_sound (λ far. after_played link far (is_some_byte rest)) (λ its far. rw asked refl)
+        (λ far. played_passes link far (is_some_byte rest))
+        (playing_caused config past link e payload rest number arrived command (its_kind (Plays command) asked) asked)
+        (λ its other x owes same. repeats {command = command} (subst (λ (l : ℕ). asked_on l past ≡ Some (Plays command)) same asked))
 
   -- its login failed
   failed_sound : (link : ℕ) (handshake : Handshake) (payload rest : Payload) (number : ℕ) (cause : LinkCause)
       → LoginCame link handshake payload number rest past → LoginFailed payload handshake cause → Contains (links past) link
       → Caused config (Drops link (drop_cause cause) ∷ []) (Comes link (steps.Lost cause) ∷ past)
   failed_sound link handshake payload rest number cause login (no_greeting g) has =
-      drops {link = link} {cause = Greeting} (not_entered login (no_greeting g), has)
+      drops {link = link} {cause = Greeting} n (not_entered login (no_greeting g), has)
   failed_sound link handshake payload rest number cause login (not_served g s) has =
-      drops {link = link} {cause = Greeting} (not_entered login (not_served g s), has)
+      drops {link = link} {cause = Greeting} n (not_entered login (not_served g s), has)
   failed_sound link handshake payload rest number cause login (error_came {code = code} e) has =
-      drops {link = link} {cause = LoginFails code} (inl (not_entered login (error_came e)), has)
+      drops {link = link} {cause = LoginFails code} n (inl (not_entered login (error_came e)), has)
   failed_sound link handshake payload rest number cause login (other_plugin p s) has =
-      drops {link = link} {cause = Plugin} (not_entered login (other_plugin p s), has)
+      drops {link = link} {cause = Plugin} n (not_entered login (other_plugin p s), has)
   failed_sound link handshake payload rest number cause login (no_answer e k p) has =
-      drops {link = link} {cause = BadReply} (inr (inr (not_entered login (no_answer e k p))), has)
+      drops {link = link} {cause = BadReply} n (inr (inr (inr (not_entered login (no_answer e k p)))), has)
   failed_sound link handshake payload rest number cause login (bad_question e k s) has =
-      drops {link = link} {cause = BadReply} (inr (inr (not_entered login (bad_question e k s))), has)
+      drops {link = link} {cause = BadReply} n (inr (inr (inr (not_entered login (bad_question e k s)))), has)
 
   -- a payload of a reply
   part_sound : (link : ℕ) (e : Exchange) (payload rest : Payload) (number : ℕ) (its : Role) (far : Progress)
       → Arrived past link e payload rest number → role e.kind e.sofar payload ≡ Some its → progress e.kind e.sofar payload ≡ Some far
-      → WaitsOn link e (asked_on link past) (is_up link past) (pending past) (sent_on past) (told past) (owed past)
+      → WaitsOn link e (asked_on link past) (is_up link past) (pending past) (sent_on past) (told past) (owed config past)
       → Sound config (Comes link (steps.Part payload its far number (is_some_byte rest)) ∷ past)
   part_sound link e payload rest number its far arrived r p (prepares asked up) =
       prepared_sound link e payload rest number arrived asked up its far r p
+  part_sound link e payload rest number its far arrived r p (repeats {command = command} asked) =
+      played_sound link e payload rest number arrived command asked its far r p
   part_sound link e payload rest number its far arrived r p (replies awaits) =
       reply_sound config past sound link e awaits.command payload rest number o (came_next link e payload rest number arrived awaits) its far r p
-      (its_links link (steps.Part payload its far number (is_some_byte rest)))
 
   wrong_owes : (link : ℕ) (e : Exchange) (payload rest : Payload) (number : ℕ) → Arrived past link e payload rest number
       → progress e.kind e.sofar payload ≡ None
-      → WaitsOn link e (asked_on link past) (is_up link past) (pending past) (sent_on past) (told past) (owed past)
+      → WaitsOn link e (asked_on link past) (is_up link past) (pending past) (sent_on past) (told past) (owed config past)
       → Caused config (Drops link BadReply ∷ []) (Comes link (steps.Lost losses.BadReply) ∷ past)
   wrong_owes link e payload rest number arrived p (prepares asked up) =
-      misprepared_caused config past link e payload rest number arrived (its_kind link e payload rest number arrived asked up) asked p
+      misprepared_caused config past link e payload rest number arrived (its_kind link e payload rest number arrived Prepares asked) asked p
+  wrong_owes link e payload rest number arrived p (repeats {command = command} asked) =
+      misplayed_caused config past link e payload rest number arrived command (its_kind link e payload rest number arrived (Plays command) asked) asked p
   wrong_owes link e payload rest number arrived p (replies awaits) =
       wrong_caused config past link e awaits.command payload rest number (came_next link e payload rest number arrived awaits) p
 
@@ -286,13 +304,13 @@ module _ (config : Config) (past : List Item) (sound : Sound config past) (came 
   coming_sound link state said is has (answers {handshake = handshake} {unread = bytes} {payload = payload} {rest = rest} {bytes = packets} {number = number} {next = next} {stage1 = stage1} f r) =
       let login = its_login past link said handshake bytes is f in
       silent_sound link (steps.Send packets) (rw is (ap awaited (after_answer_is handshake bytes f r))) refl
-      (logs_on (goes_on login (answers_so handshake payload packets number next stage1 r), has))
+      (logs_on (logs_so login (answers_so handshake payload packets number next stage1 r), has))
   coming_sound link state said is has (enters {handshake = handshake} {unread = bytes} f r) =
       silent_sound link steps.LoggedIn (rw is (ap awaited (after_entering_is handshake bytes f r))) refl nothing
   coming_sound link state said is has (hurries {handshake = handshake} {unread = bytes} {payload = payload} {number = number} f r) =
       let it : Says (linked link past) (steps.Lost losses.Unasked) = rw is (hurries f r) in
       loses_it link losses.Unasked it
-      (drops {link = link} {cause = Unasked}
+      (drops {link = link} {cause = Unasked} n
       ((behind_login (its_login past link said handshake bytes is f) (takes_so handshake payload number r), lost_owes link losses.Unasked it), has))
   coming_sound link state said is has (fails {handshake = handshake} {unread = bytes} {payload = payload} {rest = rest} {number = number} {cause = cause} f r) =
       loses_it link cause (rw is (fails f r))
@@ -300,22 +318,22 @@ module _ (config : Config) (past : List Item) (sound : Sound config past) (came 
   coming_sound link state said is has (breaks {handshake = handshake} {unread = bytes} {fault = fault} f) =
       let held : link_held link past ≡ bytes = ap unread is in
       loses_it link losses.BadWire (rw is (breaks f))
-      (drops {link = link} {cause = BadWire} (fault, garbled_login {handshake = handshake} (rw held is) (rw held f), has))
+      (drops {link = link} {cause = BadWire} n (fault, garbled_login {handshake = handshake} (rw held is) (rw held f), has))
   coming_sound link state said is has (part {e = e} {unread = bytes} {payload = payload} {rest = rest} {number = number} {its = its} {far = far} f r p) =
       let held : link_held link past ≡ bytes = ap unread is in
       part_sound link e payload rest number its far (arrived_now link e payload rest number has (rw held is) (rw held f)) r p
-      (sound.waits link e (ap awaited is))
+      (sound.waits link e (has_it (links past) link has) (ap awaited is))
   coming_sound link state said is has (garbled {e = e} {unread = bytes} {fault = fault} f) =
       let held : link_held link past ≡ bytes = ap unread is in
       loses_it link losses.BadWire (rw is (garbled f))
-      (drops {link = link} {cause = BadWire} (fault, garbles {e = e} (ap awaited is) (rw held f), has))
+      (drops {link = link} {cause = BadWire} n (fault, garbles {e = e} (ap awaited is) (rw held f), has))
   coming_sound link state said is has (wrong {e = e} {unread = bytes} {payload = payload} {rest = rest} {number = number} f p) =
       let held : link_held link past ≡ bytes = ap unread is in
       loses_it link losses.BadReply (rw is (wrong f p))
       (wrong_owes link e payload rest number (arrived_now link e payload rest number has (rw held is) (rw held f)) p
-      (sound.waits link e (ap awaited is)))
+      (sound.waits link e (has_it (links past) link has) (ap awaited is)))
   coming_sound link state said is has (again {cause = cause}) =
-      unasked_sound link cause (rw is again) has is (unasked link cause (its_contained link has) is)
+      unasked_sound link cause (rw is again) has is (unasked link cause (has_it (links past) link has) is)
 
   -- What comes of the client
 
@@ -324,11 +342,10 @@ module _ (config : Config) (past : List Item) (sound : Sound config past) (came 
 
   connect_sound : (said : FrontStep) → pending past ≡ None → IsSaid config (fronted config past) said → Sound config (Connects said ∷ past)
   connect_sound said p its = record {
-    one_link = links_keep (Connects said) o refl refl (λ is. is) sound.one_link;
     sent = sound.sent;
-    telling = sound.telling;
+    telling = λ n soon. sound.telling n (not_soon o);
     asks = still_asked refl refl refl sound.asks;
-    waits = owes_same (owed past) (after_connecting said) (ap passed o ∙ sym (connecting_passes said)) sound.waits;
+    waits = owes_same (links past) (owed config past) (after_connecting said) (ap passed o ∙ sym (connecting_passes said)) sound.waits;
     owes = said_caused config past said its;
   }
 
@@ -337,8 +354,7 @@ module _ (config : Config) (past : List Item) (sound : Sound config past) (came 
   due_sound (connects {said = said} p f c) = connect_sound said p (said_so config past said f c its_front)
   due_sound (takes {payload = payload} p f) =
       let its = taken_so config past payload f its_front in
-      take_sound config past sound payload.bytes its.1 payload.next p its.0
-      (links_keep (Takes (judged payload.bytes payload.next) payload.next) o refl refl (λ is. is) sound.one_link) its.2
+      take_sound config past sound payload.bytes its.1 payload.next p its.0 its.2
 
 -- What comes from outside
 
@@ -348,97 +364,87 @@ new_awaits Rests is = refl
 new_awaits (Awaits e bytes) is = absurd cc
 new_awaits (IsLost cause) is = refl
 
-module _ (config : Config) (past : List Item) (sound : Sound config past) (o : owed past ≡ []) (n : is_over past ≡ false) where
+module _ (config : Config) (past : List Item) (sound : Sound config past) (o : owed config past ≡ []) (n : is_over past ≡ false) where
   ready_waits : (ready : ℕ) → is_new (linked ready past) ≡ true → (other : ℕ) (e : Exchange) (same : Bool) → (ready == other) ≡ same
-      → exchange other past ≡ Some e
+      → contains other (links past) ≡ true → exchange other past ≡ Some e
       → WaitsOn other e (asked_on other past) (if same then true else is_up other past) (pending past) (sent_on past) (told past) []
-  ready_waits ready new other e true t a =
+  ready_waits ready new other e true t has a =
       let same : ready ≡ other = eqb-true ready other t in
       let none = new_awaits (linked other past) (subst (λ (l : ℕ). is_new (linked l past) ≡ true) same new) in
       let clash : None ≡ Some e = sym none ∙ a in absurd cc
-  ready_waits ready new other e false t a = passes_same (owed past) [] (ap passed o) (sound.waits other e a)
+  ready_waits ready new other e false t has a = passes_same (owed config past) [] (ap passed o) (sound.waits other e has a)
 
   input_sound : (item : Item) → IsInput item past → Sound config (item ∷ past)
   input_sound (ClientBytes bytes) input = record {
-    one_link = links_input past (ClientBytes bytes) o input sound.one_link;
     sent = sound.sent;
-    telling = sound.telling;
+    telling = λ n soon. sound.telling n (not_soon o);
     asks = still_asked refl refl refl sound.asks;
-    waits = owes_same (owed past) [] (ap passed o) sound.waits;
+    waits = owes_same (links past) (owed config past) [] (ap passed o) sound.waits;
     owes = nothing;
   }
   input_sound (LinkReady ready) input = record {
-    one_link = links_input past (LinkReady ready) o input sound.one_link;
-    sent = ready_sent past ready sound.sent;
-    telling = sound.telling;
+    sent = ready_sent config past ready sound.sent;
+    telling = λ n soon. sound.telling n (not_soon o);
     asks = still_asked refl refl refl sound.asks;
-    waits = λ other e a. ready_waits ready input.1 other e (ready == other) refl (sym (ready_keeps past ready other) ∙ a);
+    waits = λ other e has a. ready_waits ready input.1 other e (ready == other) refl has (sym (ready_keeps past ready other) ∙ a);
     owes = nothing;
   }
   input_sound (LinkBytes from bytes) input = record {
-    one_link = links_input past (LinkBytes from bytes) o input sound.one_link;
     sent = sound.sent;
-    telling = sound.telling;
+    telling = λ n soon. sound.telling n (not_soon o);
     asks = still_asked refl refl refl sound.asks;
-    waits = λ other e a. passes_same (owed past) [] (ap passed o) (sound.waits other e (sym (bytes_keep past from bytes other) ∙ a));
+    waits = λ other e has a. passes_same (owed config past) [] (ap passed o) (sound.waits other e has (sym (bytes_keep past from bytes other) ∙ a));
     owes = nothing;
   }
   input_sound ClientGone input = record {
-    one_link = links_input past ClientGone o input sound.one_link;
     sent = sound.sent;
-    telling = sound.telling;
+    telling = λ n soon. absurd cc;
     asks = still_asked refl refl refl sound.asks;
-    waits = owes_same (owed past) (farewells past) (ap passed o ∙ sym (farewells_pass (links past))) sound.waits;
-    owes = farewells_caused config past (ClientGone ∷ past) sound.one_link refl refl;
+    waits = owes_same (links past) (owed config past) (farewells past) (ap passed o ∙ sym (farewells_pass (links past))) sound.waits;
+    owes = farewells_caused config past (ClientGone ∷ past) refl refl;
   }
   input_sound (LinkLost gone) input = record {
-    one_link = links_input past (LinkLost gone) o input sound.one_link;
-    sent = sound.sent;
-    telling = sound.telling;
+    sent = without_sent (links past) (sent_on past) (kept_on past) (routing config past) gone sound.sent;
+    telling = λ n soon.
+        told_without gone
+        (λ from. let clash : true ≡ false = sym (cut_closes config past gone from) ∙ soon in cc)
+        (sound.telling n (not_soon o));
     asks = still_asked refl refl refl sound.asks;
-    waits = owes_same (owed past) (after_loss gone past) (ap passed o ∙ sym (lost_passes gone past)) sound.waits;
-    owes = loss_caused config (LinkLost gone ∷ past) gone sound.sent sound.telling (still_asked refl refl refl sound.asks) refl
-        (kept_there sound.one_link gone input);
+    waits = without_waits (links past) gone (owed config past) (after_loss config gone past) (ap passed o ∙ sym (lost_passes config gone past)) sound.waits;
+    owes = loss_caused config past (LinkLost gone ∷ past) gone closed sound.sent (sound.telling n (not_soon o)) sound.asks;
+  }
+  input_sound (Ticks reading) input = record {
+    sent = sound.sent;
+    telling = λ n soon. sound.telling n (not_soon o);
+    asks = still_asked refl refl refl sound.asks;
+    waits = owes_same (links past) (owed config past) [] (ap passed o) sound.waits;
+    owes = nothing;
   }
   input_sound _ input = absurd input
 
--- the worker is asked for the pending command, or has answered
-pub routable : {config : Config} {past : List Item} {command : Command} {login : Login} → owed past ≡ [] → is_over past ≡ false
-    → pending past ≡ Some command → kept_on past ≡ None → login_of past ≡ Some login → Sound config past → IsRoutable config login past
-routable {past = past} {command = command} o n p k l sound = record {
-  command = command;
-  pending = record { waits = p; asked = (sound.asks command p).asked };
-  logged_in = l;
-  nowhere = k;
-  no_link = by_links (goes_with o n sound.one_link);
-}
+-- a command that goes nowhere was sent nowhere
+unsent : {config : Config} {past : List Item} → goes_on config past ≡ None → Sound config past → sent_on past ≡ None
+unsent {config} {past} g sound = by_sent (sent_on past) refl
   where
-    by_links : (((links past ≡ []) × (kept_on past ≡ None)) ⊎ ((link : ℕ) × (links past ≡ link ∷ []) × (kept_on past ≡ Some link))) → links past ≡ []
-    by_links (inl none) = none.0
-    by_links (inr one) = let clash : None ≡ Some one.0 = sym k ∙ one.2 in absurd cc
+    by_sent : (sent : Option ℕ) → sent_on past ≡ sent → sent_on past ≡ None
+    by_sent None s = s
+    by_sent (Some link) s =
+        let there = sound.sent link s in let clash : None ≡ Some link = sym g ∙ there.2 in absurd cc
 
-answer_sound : {config : Config} {past : List Item} {login : Login} (link server : ℕ) → AskedNow config login past → Sound config past
-    → owed past ≡ [] → Sound config (Routed link server ∷ past)
-answer_sound {config} link server (asked_now {past = past} {command = command} legal o n p k l) sound none =
-    let asked = Puts (Routes _) ∷ past in
-    let way = routable {config = config} {past = asked} none n p k l sound in
+-- the worker has answered
+answer_sound : (config : Config) (words : PoolWords) (loads : List Load) (next : ℕ) (found : Target) {past : List Item} → AskedNow config past
+    → Sound config past → owed config past ≡ [] → Sound config (Routed words loads next found ∷ past)
+answer_sound config words loads next found (asked_now {past = past} {command = command} legal o n p g w) sound none =
+    let asked = Puts Routes ∷ past in
+    let at_none = unsent {config = config} {past = asked} g sound in
     record {
-      one_link = links_keep (Routed link server) none refl refl (λ is. is) sound.one_link;
-      sent = sound.sent;
-      telling = sound.telling;
+      sent = λ other s. let clash : None ≡ Some other = sym at_none ∙ s in absurd cc;
+      telling = λ n soon. sound.telling n (not_soon none);
       asks = still_asked refl refl refl sound.asks;
-      waits = owes_same (owed asked) (owed (Routed link server ∷ asked)) (ap passed none) sound.waits;
-      owes = opens (
-        past,
-        refl,
-        record {
-          command = way.command;
-          pending = record { waits = way.pending.waits; asked = before way.pending.asked };
-          logged_in = l;
-          nowhere = k;
-          no_link = way.no_link;
-        },
-      );
+      waits = owes_same (links past) (owed config asked) (owed config (Routed words loads next found ∷ asked))
+          (ap passed none ∙ sym (route_passes found (link_to (server_in found) asked) next (login_of config asked)
+          (finds_late config.primary_wait_ms (now asked) (routing config asked)) (reply_number asked))) sound.waits;
+      owes = route_caused config asked words loads next command p (sound.asks command p) at_none (sound.telling n (not_soon none)) found;
     }
 
 -- too much came behind the pending command
@@ -448,40 +454,40 @@ pub noted : {config : Config} {past : List Item} {command : Command} → pending
 noted {command = command} p above sound =
     flooded command (record { waits = p; asked = (sound.asks command p).asked }) refl (omega arith)
 
-flood_sound : {config : Config} {past : List Item} {command : Command} → owed past ≡ []
+flood_sound : {config : Config} {past : List Item} {command : Command} → owed config past ≡ []
     → pending past ≡ Some command → flood_limit config < length (held config past) → Sound config past
     → Sound config (Floods (flood_limit config + 1) ∷ past)
 flood_sound {config} {past} o p above sound =
     let bytes : ℕ = flood_limit config + 1 in
     record {
-      one_link = links_keep (Floods bytes) o refl refl (λ is. is) sound.one_link;
       sent = sound.sent;
-      telling = sound.telling;
+      telling = λ n soon. sound.telling n (not_soon o);
       asks = still_asked refl refl refl sound.asks;
-      waits = owes_same (owed past) (after_flood bytes) (ap passed o) sound.waits;
+      waits = owes_same (links past) (owed config past) (after_flood bytes) (ap passed o) sound.waits;
       owes = flood_caused config bytes (Floods bytes ∷ past) (noted p above sound);
     }
 
 step_sound : {config : Config} {past : List Item} {item : Item} → Step config past item → Came past
-    → (owed past ≡ [] → AreUnasked past) → Entering config past → Sound config past → Sound config (item ∷ past)
+    → (owed config past ≡ [] → AreUnasked past) → Entering config past → Sound config past → Sound config (item ∷ past)
 step_sound {config} {past} (pays {put = put} {others = others} o) came unasked entering sound =
     put_sound config past sound put others o (subst (λ (list : List Put). Caused config list past) o sound.owes)
-step_sound {config} {past} (asks {login = login} o n p k l) came unasked entering sound = routes_sound config past sound login o
-step_sound {config} {past} (prepares_it {link = link} o n k c) came unasked entering sound =
+step_sound {config} {past} (asks o n p g w) came unasked entering sound = routes_sound config past sound o
+step_sound {config} {past} (prepares_it {link = link} o n has c) came unasked entering sound =
     prepares_sound config past sound link o (not_up (is_up link past) (freed false link past c).1)
-step_sound {config} {past} (sends {link = link} {command = command} o n p s k c) came unasked entering sound =
-    send_sound config past sound link command o p s k (freed true link past c).1
+step_sound {config} {past} (plays {link = link} {command = command} o n has f s) came unasked entering sound =
+    plays_sound config past sound link command o
+step_sound {config} {past} (sends {link = link} {command = command} o n p s g f d) came unasked entering sound =
+    let free = freed true link past f in send_sound config past sound link command o n p s g free.1 free.0
 step_sound (floods o n p above) came unasked entering sound = flood_sound o p above sound
 step_sound {config} {past} (reads o n due) came unasked entering sound =
     due_sound config past sound came (unasked o) (is_entering o n entering) o n due
 
-begun_sound : (config : Config) (link server : ℕ) → Sound config (Began link server ∷ [])
-begun_sound config link server = record {
-  one_link = has_one link refl refl;
+begun_sound : (config : Config) (link server reading : ℕ) → Sound config (Began link server reading ∷ [])
+begun_sound config link server reading = record {
   sent = λ other e. absurd cc;
-  telling = none_told;
+  telling = λ n soon. none_told;
   asks = λ command e. absurd cc;
-  waits = λ other e a. begun_waits other e (link == other) a;
+  waits = λ other e has a. begun_waits other e (link == other) a;
   owes = nothing;
 }
   where
@@ -490,23 +496,21 @@ begun_sound config link server = record {
     begun_waits other e false a = absurd cc
 
 begins_sound : (config : Config) (item : Item) → IsBeginning item → Sound config (item ∷ [])
-begins_sound config (Accepted session scramble) its = record {
-  one_link = none_yet refl refl;
+begins_sound config (Accepted session scramble reading) its = record {
   sent = λ other e. absurd cc;
-  telling = none_told;
+  telling = λ n soon. none_told;
   asks = λ command e. absurd cc;
-  waits = λ other e a. absurd cc;
+  waits = λ other e has a. absurd cc;
   owes = nothing;
 }
 begins_sound config (TurnsAway told) its = record {
-  one_link = none_yet refl refl;
   sent = λ other e. absurd cc;
-  telling = none_told;
+  telling = λ n soon. none_told;
   asks = λ command e. absurd cc;
-  waits = λ other e a. absurd cc;
+  waits = λ other e has a. absurd cc;
   owes = turning_caused config told;
 }
-begins_sound config (Began link server) its = begun_sound config link server
+begins_sound config (Began link server reading) its = begun_sound config link server reading
 begins_sound config _ its = absurd its
 
 -- until memory is wanting
@@ -516,8 +520,9 @@ legal_sound {config} (steps {past = past} {item = item} legal e) fed =
     let step = of_next config past item e in
     let before = sym (step_starved step) ∙ fed in
     step_sound step (legal_came legal) (legal_unasked legal before) (legal_entering legal) (legal_sound legal before)
-legal_sound (answered {link = link} {server = server} legal asked) fed =
-    answer_sound link server (legal_asked legal asked) (legal_sound legal fed) (asks_owing_nothing legal asked)
+legal_sound {config} (answered {past = past} {words = words} {loads = loads} {next_link = next} legal asked) fed =
+    answer_sound config words loads next (found_in config past words loads) (legal_asked legal asked) (legal_sound legal fed)
+    (asks_owing_nothing legal asked)
 legal_sound {config} (hears {past = past} {item = item} legal rests none n input) fed =
     input_sound config past (legal_sound legal (sym (input_starved past item input) ∙ fed)) (rests_owing_nothing config past rests none) n item input
 legal_sound (starves legal once can its) fed = absurd cc

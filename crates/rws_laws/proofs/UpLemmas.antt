@@ -7,9 +7,9 @@ use Rattle.rws_reply.specs.declared.kind.Progress.TheVariants.{More, Whole as En
 use Rattle.rws_link.specs.declared.step.LinkStep.{LinkStep}
 use Rattle.rws_link.specs.Stepping.{LinkState, LogsIn, Rests, Awaits, IsLost, Exchange, behind_part, fed, is_new, opened as opening, readied, sent, settled, step, with_part}
 use Rattle.rws_record.specs.Item.{Item, Purpose, Put}
-use Rattle.rws_record.specs.Item.Item.{Accepted, TurnsAway, Began, ClientBytes, LinkReady, LinkBytes, ClientGone, LinkLost, Comes, Puts}
+use Rattle.rws_record.specs.Item.Item.{Accepted, TurnsAway, Began, ClientBytes, LinkReady, LinkBytes, ClientGone, LinkLost, Ticks, Comes, Puts}
 use Rattle.rws_record.specs.Item.Put.{Hands, Tells, Routes, Opens, LogsInto, Sends, Drops, Closes}
-use Rattle.rws_record.specs.Item.Purpose.{Prepares, Asks}
+use Rattle.rws_record.specs.Item.Purpose.{Prepares, Asks, Plays}
 use Rattle.rws_record.specs.Values.{asked_on, is_up, kind_of, linked, prepared_by, sent_for}
 use Rattle.rws_record.specs.Record.{IsBeginning, IsInput, IsRecord}
 use Rattle.rws_record.specs.Record.IsRecord.{begins, steps as goes, answers as answered, hears, starves}
@@ -17,7 +17,7 @@ use Rattle.rws_record.proofs.LinkedLemmas.{Says, after_loss_is, after_part_is}
 use Rattle.rws_record.proofs.LinkedLemmas.Says.{answers, enters, hurries, fails, breaks, part, garbled, wrong, again}
 use Rattle.rws_record.proofs.StepLemmas.{Due, Step, of_next}
 use Rattle.rws_record.proofs.StepLemmas.Due.{comes, connects, takes}
-use Rattle.rws_record.proofs.StepLemmas.Step.{pays, asks, prepares, sends, floods, reads}
+use Rattle.rws_record.proofs.StepLemmas.Step.{pays, asks, prepares, plays, sends, floods, reads}
 
 abbrev pub logs_in : LinkState → Bool
 logs_in (LogsIn handshake bytes) = true
@@ -91,7 +91,7 @@ put_up past (Opens opened server login) up = λ link u. by_test link (opened == 
     by_test link false u = up link u
 put_up past (Hands packets) up = up
 put_up past (Tells number tell) up = up
-put_up past (Routes login) up = up
+put_up past Routes up = up
 put_up past (LogsInto to packets) up = up
 put_up past (Drops link cause) up = up
 put_up past (Closes reason) up = up
@@ -105,7 +105,8 @@ step_up : {config : Config} {past : List Item} {item : Item} → Step config pas
 step_up {past = past} (pays {put = put} o) up = put_up past put up
 step_up (asks o n p k l) up = up
 step_up {past = past} (prepares {link = to} o n k c) up = sending_up past to Prepares up
-step_up {past = past} (sends {link = to} {command = command} o n p s k c) up = sending_up past to (Asks command) up
+step_up {past = past} (plays {link = to} {command = command} o n k c s) up = sending_up past to (Plays command) up
+step_up {past = past} (sends {link = to} {command = command} o n p s k c d) up = sending_up past to (Asks command) up
 step_up (floods o n p above) up = up
 step_up (reads o n due) up = due_up due up
 
@@ -126,12 +127,13 @@ input_up past (LinkBytes from bytes) input up = λ link u. by_test link (from ==
     by_test link false u = up link u
 input_up past ClientGone input up = up
 input_up past (LinkLost link) input up = up
+input_up past (Ticks reading) input up = up
 input_up past _ input up = absurd input
 
 begins_up : (item : Item) → IsBeginning item → Up (item ∷ [])
-begins_up (Accepted session scramble) its = λ link u. absurd cc
+begins_up (Accepted session scramble reading) its = λ link u. absurd cc
 begins_up (TurnsAway told) its = λ link u. absurd cc
-begins_up (Began first server) its = λ link u. by_test (first == link)
+begins_up (Began first server reading) its = λ link u. by_test (first == link)
   where
     by_test : (test : Bool) → logs_in (if test then Rests else Rests) ≡ false
     by_test true = refl

@@ -12,7 +12,7 @@ small : prepared_handle < 2 ^ 32
 small = omega arith
 
 pub whole_replies : WholeReplies
-whole_replies config past number link command payload outcome legal heard =
+whole_replies config past number link command payload outcome recording legal heard =
     let all = causes config _ legal in
     let cause = all.0 in
     let bytes = came_fits config link past all.1 heard in

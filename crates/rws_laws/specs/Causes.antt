@@ -1,40 +1,46 @@
 -- Why each item of a session's record stands where it stands. This is a second reading of the record: it says what must
 -- have come and what must have been given out below a place, and names no rule by which a session goes on.
-use Rattle.std.specs.Prelude.{◌≡◌, ◌≢◌, ◌⊎◌, ℕ, length, Bool, true, false, List, [], ◌∷◌, ◌++◌, Some, None, Contains}
+use Rattle.std.specs.Prelude.{◌≡◌, ◌≢◌, ◌⊎◌, ℕ, ◌+◌, ◌<◌, ◌≤◌, length, Bool, true, false, List, [], ◌∷◌, ◌++◌, Option, Some, None, Contains, slice_get}
 use Rattle.rws_wire.specs.Packets.{number_behind}
 use Rattle.rws_wire.specs.Payloads.{first_payload}
 use Rattle.rws_wire.specs.Payloads.Beginning.{Whole}
 use Rattle.rws_wire.specs.declared.fault.WireFault.{WireFault}
 use Rattle.rws_wire.specs.declared.close_reason.CloseReason.TheVariants.{Quit, Handshake, Access, Connections, OutOfOrder, TooLarge, ResultCut, OutcomeUnknown, SessionState, Memory}
 use Rattle.rws_wire.specs.declared.close_reason.CloseReason.TheVariants as reasons
-use Rattle.rws_wire.specs.declared.drop_cause.DropCause.TheVariants.{BadWire, BadReply, Unasked, Greeting, Plugin, Login as LoginFails, End}
+use Rattle.rws_wire.specs.declared.drop_cause.DropCause.TheVariants.{BadWire, BadReply, Unasked, Greeting, Plugin, Login as LoginFails, End, Kept, SessionDiffers}
 use Rattle.rws_msgs.specs.declared.status.TheConstants.{AUTOCOMMIT}
-use Rattle.rws_native.specs.declared.login.Login.{Login}
 use Rattle.rws_class.specs.Classes.{class_of}
-use Rattle.rws_class.specs.declared.class.Class.TheVariants.{Refused}
+use Rattle.rws_class.specs.declared.class.Class.{Class}
+use Rattle.rws_class.specs.declared.class.Class.TheVariants.{Write, Ddl, Session, AutocommitOn, Refused, Other}
 use Rattle.rws_reply.specs.declared.kind.Kind.TheVariants.{Query as QueryReply}
+use Rattle.rws_reply.specs.declared.kind.Outcome.{Outcome}
+use Rattle.rws_reply.specs.declared.kind.Outcome.TheVariants.{Done}
 use Rattle.rws_reply.specs.Replies.{Payload, IsReply, Begins}
 use Rattle.rws_reply.specs.Tracking.{progress, role}
 use Rattle.rws_reply.specs.ClientForm.{client_reply}
 use Rattle.rws_link.specs.declared.step.LinkCause.TheVariants as losses
 use Rattle.rws_link.specs.declared.step.LinkStep.TheVariants as steps
 use Rattle.rws_link.specs.Stepping.{Exchange, Rests, is_new}
+use Rattle.rws_pool.specs.declared.words.PoolWords.{PoolWords}
+use Rattle.rws_select.specs.declared.selector.Load.{Load}
+use Rattle.rws_route.specs.declared.destination.Target.{Target}
+use Rattle.rws_route.specs.declared.destination.Target.TheVariants.{Primary, Replica, NoPrimary as Nowhere}
 use Rattle.rws_config.specs.declared.config.Config.{Config}
 use Rattle.rws_config.specs.declared.limits.TheConstants.{SERVER_PAYLOAD}
 use Rattle.rws_record.specs.declared.command.Command.{Command}
-use Rattle.rws_record.specs.declared.proxy_error.ProxyError.TheVariants.{UnknownCommand, NotSupported, TooManyConnections, CommandTooLarge, OutOfMemory}
+use Rattle.rws_record.specs.declared.proxy_error.ProxyError.TheVariants.{UnknownCommand, NotSupported, TooManyConnections, CommandTooLarge, NoPrimary, OutOfMemory}
 use Rattle.rws_record.specs.declared.request.Request.TheVariants as requests
-use Rattle.rws_record.specs.Item.{Item, Put}
+use Rattle.rws_record.specs.Item.{Item, Put, Recording}
 use Rattle.rws_record.specs.Item.Item.{Accepted, TurnsAway, Began, LinkReady, LinkBytes, LinkLost, Routed, Comes, Connects, Takes, Floods, Puts, Starves}
 use Rattle.rws_record.specs.Item.Put.{Hands, Tells, Routes, Opens, LogsInto, Sends, Drops, Closes}
 use Rattle.rws_record.specs.Item.Tell.{Passes, Owns, Refuses}
-use Rattle.rws_record.specs.Item.Purpose.{Prepares, Asks}
+use Rattle.rws_record.specs.Item.Purpose.{Prepares, Asks, Plays}
+use Rattle.rws_record.specs.Item.Recording.{Nothing, Accepts, Keeps}
 use Rattle.rws_record.specs.Requests.{arguments_of, request_of}
-use Rattle.rws_record.specs.Values.{fronted, login_of, links, kept_on, linked, is_up, asked_on, exchange, prepared_handle, link_held, pending, sent_on, told, told_from, is_over, is_starved}
-use Rattle.rws_record.specs.Rules.{counts_as_sent}
+use Rattle.rws_record.specs.Values.{accepted, autocommit, class_of_command, cursor, fronted, goes_on, login_of, links, kept_on, linked, is_up, asked_on, exchange, now, prepared_handle, link_held, pending, routing, sent_on, server_of, told, told_from, is_over, is_starved}
 use Rattle.rws_record.specs.Record.{CanBeMade, want_number}
 use Rattle.rws_laws.specs.Client.{Took, IsPending, Flooded, IsSaid, Handed, WasRefused}
-use Rattle.rws_laws.specs.Servers.{came_on, replied, IsNoReply, IsUnasked, IsGarbled, LogsOn, Entered, NotEntered, IsLostFor, IsUnprepared, lost, WasPrepared}
+use Rattle.rws_laws.specs.Servers.{came_on, replied, IsNoReply, IsUnasked, IsGarbled, LogsOn, Entered, NotEntered, IsLostFor, IsUnprepared, Lost, WasPrepared, Differs}
 
 -- The link is the one on which the pending command was sent; all that the client was passed since it was taken up came from
 -- there.
@@ -52,21 +58,117 @@ number_behind_all (payload ∷ others) number = number_behind_all others (number
 -- its form: each OK without the session's state, and all else as the server sent it. The numbers count on from the command's.
 pub record IsPassed (config : Config) (number link : ℕ) (command : Command) (payload : Payload) (past : List Item) : Type 0 where
   pub came : replied past ≡ Some link
+  pub has : Contains (links past) link
   pub of_reply : IsOfReply config link command past
   pub in_form : told past ++ payload ∷ [] ≡ client_reply command.kind prepared_handle (came_on link past)
   pub counts : number ≡ number_behind_all (told past) command.number
 
--- The client logged in so, its command is pending, and the session never had a link for it.
-pub record IsRoutable (config : Config) (login : Login) (past : List Item) : Type 0 where
+-- Where a command goes
+
+-- what was found is this server
+pub data IsAt (server : ℕ) : Target → Type 0 where
+  primary : IsAt server (Primary server)
+  replica : IsAt server (Replica server)
+
+-- what the last route found of the command that was taken up last
+abbrev pub found_last : List Item → Option Target
+found_last [] = None
+found_last (Takes it number ∷ past) = None
+found_last (Routed words loads next found ∷ past) = Some found
+found_last (_ ∷ past) = found_last past
+
+abbrev pub earlier : Option ℕ → ℕ → Option ℕ
+earlier (Some reading) other = Some reading
+earlier None other = Some other
+
+-- the clock's reading where the command that was taken up last found no primary first
+abbrev pub first_nowhere : List Item → Option ℕ
+first_nowhere [] = None
+first_nowhere (Takes it number ∷ past) = None
+first_nowhere (Routed words loads next Nowhere ∷ past) = earlier (first_nowhere past) (now past)
+first_nowhere (_ ∷ past) = first_nowhere past
+
+-- The worker's answer came just now, and by it a link of this number goes to this server, to which the session had none. The
+-- pending command was sent nowhere.
+pub record IsOpening (config : Config) (link server : ℕ) (past : List Item) : Type 0 where
+  pub below : List Item
+  pub words : PoolWords
+  pub loads : List Load
+  pub found : Target
+  pub answered : past ≡ Routed words loads link found ∷ below
+  pub there : IsAt server found
+  pub none_there : (other : ℕ) → Contains (links below) other → server_of other below ≢ server
   pub command : Command
   pub pending : IsPending config command past
-  pub logged_in : login_of past ≡ Some login
-  pub nowhere : kept_on past ≡ None
-  pub no_link : links past ≡ []
+  pub unsent : sent_on past ≡ None
 
--- The pending command was sent on the link, or waits for it, which counts the same as long as nothing sends it elsewhere.
-abbrev pub IsOutOn : ℕ → List Item → Type 0
-IsOutOn link past = (sent_on past ≡ Some link) ⊎ ((sent_on past ≡ None) × (kept_on past ≡ Some link) × (counts_as_sent ≡ true))
+-- The worker's answer came just now, and by it there is no primary for the pending command, which was sent nowhere. It had waited for
+-- one until the clock showed something, and that is as late as a command may wait behind the reading at which it found none first.
+pub record FindsLate (config : Config) (number : ℕ) (past : List Item) : Type 0 where
+  pub below : List Item
+  pub words : PoolWords
+  pub loads : List Load
+  pub next : ℕ
+  pub answered : past ≡ Routed words loads next Nowhere ∷ below
+  pub command : Command
+  pub pending : IsPending config command past
+  pub unsent : sent_on past ≡ None
+  pub waited : (routing config below).retries ≡ true
+  pub first : ℕ
+  pub since : first_nowhere below ≡ Some first
+  pub late : first + config.primary_wait_ms ≤ now below
+  pub counts : number ≡ command.number
+
+-- What is set on the session's links
+
+-- by its class, a command sets the session alone, and can be repeated on other links
+pub data SetsSession : Class → Type 0 where
+  sets : SetsSession Session
+  sets_autocommit : SetsSession AutocommitOn
+
+-- The command has set a session that isn't kept on a link: its reply ended without an error.
+pub record HasSet (command : Command) (outcome : Outcome) (past : List Item) : Type 0 where
+  pub class : SetsSession (class_of_command command)
+  pub status : ℕ
+  pub done : outcome ≡ Done status
+  pub free : kept_on past ≡ None
+
+-- What the end of a reply means for the session's history: where its command has set the session, it is added, or keeps the session where
+-- there is no room for it.
+abbrev pub IsRecorded : Config → Command → Outcome → Recording → List Item → Type 0
+IsRecorded config command outcome Accepts past = HasSet command outcome past × (length (accepted past) < config.history_limit)
+IsRecorded config command outcome Keeps past = HasSet command outcome past × (config.history_limit ≤ length (accepted past))
+IsRecorded config command outcome Nothing past = ¬ HasSet command outcome past
+
+-- The session was kept on a link just now, by a command that may change anything, or by one that set the session and found its history
+-- full; other links may have been given up since.
+pub data JustKept (config : Config) (link : ℕ) : List Item → Type 0 where
+  sends : {command : Command} {past : List Item} → class_of_command command ≡ Other → kept_on past ≡ None
+      → JustKept config link (Puts (Sends link (Asks command)) ∷ past)
+  fills : {number : ℕ} {command : Command} {payload : Payload} {outcome : Outcome} {past : List Item} → IsRecorded config command outcome Keeps past
+      → JustKept config link (Puts (Tells number (Passes link command payload (Some outcome) Keeps)) ∷ past)
+  gives_up : {other : ℕ} {past : List Item} → JustKept config link past → JustKept config link (Puts (Drops other Kept) ∷ past)
+
+-- What is lost with a link
+
+-- a command of this class may have changed something for good, by its own
+pub data MayLast : Class → (autocommit : Bool) → Type 0 where
+  anything : {autocommit : Bool} → MayLast Other autocommit
+  definitions : {autocommit : Bool} → MayLast Ddl autocommit
+  rows : MayLast Write true
+
+-- the client has a part of the reply that the link was giving
+pub record IsCut (config : Config) (link : ℕ) (command : Command) (past : List Item) : Type 0 where
+  pub pending : IsPending config command past
+  pub from : told_from past ≡ Some link
+  pub some : told past ≢ []
+
+-- the command was sent on the link and may have changed something, and the client has nothing of its reply
+pub record IsHidden (config : Config) (link : ℕ) (command : Command) (past : List Item) : Type 0 where
+  pub pending : IsPending config command past
+  pub sent : sent_on past ≡ Some link
+  pub lasts : MayLast (class_of_command command) (autocommit config past)
+  pub none : told past ≡ []
 
 -- Memory was wanting just now: the session wasn't made, or else its client was told.
 abbrev pub IsStarvedAndTold : List Item → Type 0
@@ -74,21 +176,28 @@ IsStarvedAndTold past =
     (below : List Item) × (number : ℕ)
     × ((past ≡ Starves false number ∷ below) ⊎ (past ≡ Puts (Tells number (Refuses OutOfMemory)) ∷ Starves true number ∷ below))
 
+-- the status in which no transaction is open
+abbrev pub status_by : (autocommit : Bool) → ℕ
+status_by true = AUTOCOMMIT
+status_by false = 0
+
 -- Causes
 
 -- Why this may be given out next. What a session never gives out has no cause.
 abbrev pub IsCaused : Config → Put → List Item → Type 0
 -- the front made the packets just now
 IsCaused config (Hands packets) past = Handed config packets past
--- what came is a whole reply with this outcome, or what a reply begins with
-IsCaused config (Tells number (Passes link command payload (Some outcome))) past =
+-- what came is a whole reply with this outcome, and this is what it means for the history; or what a reply begins with
+IsCaused config (Tells number (Passes link command payload (Some outcome) recording)) past =
     IsPassed config number link command payload past × IsReply command.kind (came_on link past) outcome
-    × (exchange link past ≡ None)
-IsCaused config (Tells number (Passes link command payload None)) past =
+    × (exchange link past ≡ None) × IsRecorded config command outcome recording past
+IsCaused config (Tells number (Passes link command payload None Nothing)) past =
     IsPassed config number link command payload past × Begins command.kind (came_on link past)
--- COM_PING; autocommit is on, and no transaction is open
+IsCaused config (Tells number (Passes link command payload None _)) past = ⊥
+-- COM_PING; whether autocommit is on, and no transaction is open
 IsCaused config (Tells number (Owns status)) past =
-    (payload : Payload) × Took config payload number past × (request_of payload ≡ requests.Ping) × (status ≡ AUTOCOMMIT)
+    (payload : Payload) × Took config payload number past × (request_of payload ≡ requests.Ping)
+    × (status ≡ status_by (autocommit config past))
 IsCaused config (Tells number (Refuses UnknownCommand)) past =
     (payload : Payload) × Took config payload number past × (request_of payload ≡ requests.Unknown)
 -- a command that the proxy doesn't take, or a text that sets what mayn't be set
@@ -102,20 +211,27 @@ IsCaused config (Tells number (Refuses CommandTooLarge)) past = (bytes : ℕ) ×
 -- memory was wanting to a session that goes on
 IsCaused config (Tells number (Refuses OutOfMemory)) past =
     (below : List Item) × (past ≡ Starves true number ∷ below) × (is_over below ≡ false) × (number ≡ want_number config below)
+-- the pending command waited for a primary too long
+IsCaused config (Tells number (Refuses NoPrimary)) past = FindsLate config number past
 IsCaused config (Tells number (Refuses _)) past = ⊥
-IsCaused config (Routes login) past = IsRoutable config login past
--- the worker answered just now
-IsCaused config (Opens link server login) past =
-    (below : List Item) × (past ≡ Routed link server ∷ Puts (Routes login) ∷ below) × IsRoutable config login past
+-- a command is pending, it isn't known where it goes, and it doesn't wait for a primary
+IsCaused config Routes past =
+    (command : Command) × IsPending config command past × (goes_on config past ≡ None) × ((routing config past).waits ≡ false)
+-- on which the client's login is repeated
+IsCaused config (Opens link server login) past = IsOpening config link server past × (login_of config past ≡ Some login)
 -- what the link's login says just now
 IsCaused config (LogsInto link packets) past = LogsOn link packets past × Contains (links past) link
 -- the preamble, on a link that is logged in and not prepared
-IsCaused config (Sends link Prepares) past =
-    (kept_on past ≡ Some link) × Contains (links past) link × (is_up link past ≡ false) × (linked link past ≡ Rests)
--- the client's command, on the link that the session is kept on, where that is prepared and it wasn't sent before
+IsCaused config (Sends link Prepares) past = Contains (links past) link × (is_up link past ≡ false) × (linked link past ≡ Rests)
+-- an entry of the history, on a link that is prepared and owes no reply: the one behind those that the link has played, or led
+IsCaused config (Sends link (Plays command)) past =
+    Contains (links past) link × (is_up link past ≡ true) × WasPrepared link past × (linked link past ≡ Rests)
+    × (slice_get (accepted past) (cursor link past) ≡ Some command)
+-- the client's command, on the link that the session is kept on, or that its last route gave, where that is prepared and has played
+-- the history, and the command isn't out on a link that the session has
 IsCaused config (Sends link (Asks command)) past =
-    IsPending config command past × (sent_on past ≡ None) × (kept_on past ≡ Some link) × Contains (links past) link
-    × (is_up link past ≡ true) × WasPrepared link past × (linked link past ≡ Rests)
+    IsPending config command past × (sent_on past ≡ None) × (goes_on config past ≡ Some link) × Contains (links past) link
+    × (is_up link past ≡ true) × WasPrepared link past × (linked link past ≡ Rests) × (cursor link past ≡ length (accepted past))
 IsCaused config (Closes Quit) past =
     (payload : Payload) × (number : ℕ) × Took config payload number past × (request_of payload ≡ requests.Quit)
 IsCaused config (Closes Handshake) past = WasRefused config Handshake past
@@ -128,26 +244,26 @@ IsCaused config (Closes Connections) past =
 -- the flood was noted, and then the client was told
 IsCaused config (Closes (reasons.Flooded bytes)) past =
     (below : List Item) × (past ≡ Puts (Tells 1 (Refuses CommandTooLarge)) ∷ below) × Flooded config bytes below
--- the client has a part of the reply that the lost link was giving
+-- a reply was cut by the loss of its link
 IsCaused config (Closes ResultCut) past =
-    (link : ℕ) × (command : Command) × (lost past ≡ Some link) × IsPending config command past
-    × (told_from past ≡ Some link) × (told past ≢ [])
--- the command was out on the lost link, so it may have been carried out, and the client has nothing of its reply
+    (link : ℕ) × (below : List Item) × (command : Command) × Lost link below past × IsCut config link command below
+-- what became of the command isn't known
 IsCaused config (Closes OutcomeUnknown) past =
-    (link : ℕ) × (command : Command) × (lost past ≡ Some link) × IsPending config command past
-    × IsOutOn link past × (told past ≡ [])
--- no command was there, but the connection held what the session has set
+    (link : ℕ) × (below : List Item) × (command : Command) × Lost link below past × IsHidden config link command below
+-- none of both, but the connection held what the session has set
 IsCaused config (Closes SessionState) past =
-    (link : ℕ) × (lost past ≡ Some link) × (kept_on past ≡ Some link) × (pending past ≡ None) × (sent_on past ≡ None)
+    (link : ℕ) × (below : List Item) × Lost link below past × (kept_on below ≡ Some link)
+    × ((command : Command) → ¬ IsCut config link command below) × ((command : Command) → ¬ IsHidden config link command below)
 IsCaused config (Closes Memory) past = IsStarvedAndTold past
 IsCaused config (Closes _) past = ⊥
 IsCaused config (Drops link BadWire) past =
     (fault : WireFault) × IsGarbled link fault past × Contains (links past) link
--- what came with this payload is no reply to the command or to the preamble, or no word on the login
+-- what came with this payload is no reply to the command, to the preamble or to an entry of the history, or no word on the login
 IsCaused config (Drops link BadReply) past =
     (((command : Command) × (payload : Payload) × IsOfReply config link command past × IsNoReply command.kind link payload past)
     ⊎ (((payload : Payload) × (asked_on link past ≡ Some Prepares) × IsNoReply QueryReply link payload past)
-    ⊎ NotEntered link losses.BadReply past))
+    ⊎ (((command : Command) × (payload : Payload) × (asked_on link past ≡ Some (Plays command)) × IsNoReply command.kind link payload past)
+    ⊎ NotEntered link losses.BadReply past)))
     × Contains (links past) link
 IsCaused config (Drops link Unasked) past = IsUnasked link past × Contains (links past) link
 -- the link's login failed
@@ -157,6 +273,10 @@ IsCaused config (Drops link Plugin) past = NotEntered link losses.Plugin past ×
 IsCaused config (Drops link (LoginFails code)) past =
     (NotEntered link (losses.Login code) past ⊎ IsUnprepared link code past) × Contains (links past) link
 IsCaused config (Drops link End) past = (is_over past ≡ true) × Contains (links past) link
+-- the session was kept on another link just now
+IsCaused config (Drops link Kept) past = (kept : ℕ) × JustKept config kept past × (kept ≢ link) × Contains (links past) link
+-- the server answered an entry of the history by an error
+IsCaused config (Drops link SessionDiffers) past = Differs link past × Contains (links past) link
 IsCaused config (Drops link _) past = ⊥
 
 -- whether bytes stand behind a payload
@@ -167,14 +287,14 @@ IsBehind false rest = rest ≡ []
 -- What was read is what the bytes below it begin with, of the client or of a link, and what came came from a link that the
 -- session has.
 abbrev pub IsRead : Config → Item → List Item → Type 0
-IsRead config (Accepted session scramble) past = past ≡ []
+IsRead config (Accepted session scramble reading) past = past ≡ []
 IsRead config (TurnsAway told) past = past ≡ []
-IsRead config (Began link server) past = past ≡ []
+IsRead config (Began link server reading) past = past ≡ []
 IsRead config (LinkReady link) past = Contains (links past) link × (is_new (linked link past) ≡ true)
 IsRead config (LinkBytes link bytes) past = Contains (links past) link
 IsRead config (LinkLost link) past = Contains (links past) link
 -- the worker was asked just now
-IsRead config (Routed link server) past = (below : List Item) × (login : Login) × (past ≡ Puts (Routes login) ∷ below)
+IsRead config (Routed words loads next found) past = (below : List Item) × (past ≡ Puts Routes ∷ below)
 IsRead config (Comes link (steps.Part payload its far next more)) past =
     (e : Exchange) × (rest : List ℕ) × Contains (links past) link × (exchange link past ≡ Some e)
     × (first_payload SERVER_PAYLOAD e.next (link_held link past) ≡ Whole payload next rest)

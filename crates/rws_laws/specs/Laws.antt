@@ -1,21 +1,25 @@
 -- Laws about records and runs. Each is carried by a public function whose contract is the law.
-use Rattle.std.specs.Prelude.{◌≡◌, ℕ, List, [], ◌∷◌, ◌++◌, Some, None}
+use Rattle.std.specs.Prelude.{◌≡◌, ◌≢◌, ℕ, false, List, [], ◌∷◌, ◌++◌, length, Some, None, Contains}
 use Rattle.rws_wire.specs.Numbers.{AreBytes}
 use Rattle.rws_reply.specs.declared.kind.Outcome.{Outcome}
 use Rattle.rws_reply.specs.Replies.{Payload, IsReply}
 use Rattle.rws_reply.specs.ClientForm.{without_state}
+use Rattle.rws_route.specs.declared.destination.Target.{Target}
 use Rattle.rws_config.specs.declared.config.Config.{Config}
 use Rattle.rws_record.specs.declared.command.Command.{Command}
-use Rattle.rws_record.specs.Item.{Item}
+use Rattle.rws_record.specs.Item.{Item, Purpose, Recording}
 use Rattle.rws_record.specs.Item.Item.{LinkBytes, Puts}
-use Rattle.rws_record.specs.Item.Put.{Tells}
+use Rattle.rws_record.specs.Item.Purpose.{Asks, Plays}
+use Rattle.rws_record.specs.Item.Put.{Sends, Tells}
 use Rattle.rws_record.specs.Item.Tell.{Passes}
-use Rattle.rws_record.specs.Values.{told, asking}
+use Rattle.rws_record.specs.Values.{accepted, asking, cursor, kept_on, links, server_of, told}
 use Rattle.rws_record.specs.Rules.{next}
 use Rattle.rws_record.specs.Record.{IsRecord}
 use Rattle.rws_record.specs.Run.{Entry, IsRun, next_entry, record_of}
-use Rattle.rws_laws.specs.Causes.{AreCaused}
+use Rattle.rws_laws.specs.Causes.{AreCaused, IsAt, IsHidden, found_last}
+use Rattle.rws_laws.specs.Servers.{Lost}
 use Rattle.rws_laws.specs.Answers.{IsAnswered}
+use Rattle.rws_laws.specs.History.{set_on}
 
 -- In a legal record all that was read, told, opened, sent, dropped and closed has its cause.
 abbrev pub Causes : Type 0
@@ -36,18 +40,64 @@ HeardBytes (_ ∷ past) = HeardBytes past
 -- for the status bit 0x4000 that goes with the session's state.
 abbrev pub WholeReplies : Type 0
 WholeReplies =
-    (config : Config) (past : List Item) (number link : ℕ) (command : Command) (payload : Payload) (outcome : Outcome)
-    → IsRecord config (Puts (Tells number (Passes link command payload (Some outcome))) ∷ past)
+    (config : Config) (past : List Item) (number link : ℕ) (command : Command) (payload : Payload) (outcome : Outcome) (recording : Recording)
+    → IsRecord config (Puts (Tells number (Passes link command payload (Some outcome) recording)) ∷ past)
     → HeardBytes past
     → (seen : Outcome) × IsReply command.kind (told past ++ payload ∷ []) seen × (without_state seen ≡ without_state outcome)
+
+-- Where a client's command goes on a link, the session's history has been set there, whole and in order. In a session that isn't kept on
+-- a link, that is all that has set it, on whichever of its links.
+abbrev pub SetsBeforeItAsks : Type 0
+SetsBeforeItAsks =
+    (config : Config) (past : List Item) (link : ℕ) (command : Command) → IsRecord config (Puts (Sends link (Asks command)) ∷ past)
+    → (set_on link past ≡ accepted past) × (cursor link past ≡ length (accepted past))
+
+-- In a legal record what has set the session on a link is a front of the session's history.
+abbrev pub SetsInOrder : Type 0
+SetsInOrder =
+    (config : Config) (past : List Item) (link : ℕ) → IsRecord config past
+    → (others : List Command) × (accepted past ≡ set_on link past ++ others) × (cursor link past ≡ length (set_on link past))
+
+-- An entry that is played on a link is the one behind that front.
+abbrev pub PlaysInOrder : Type 0
+PlaysInOrder =
+    (config : Config) (past : List Item) (link : ℕ) (command : Command) → IsRecord config (Puts (Sends link (Plays command)) ∷ past)
+    → (others : List Command) × (accepted past ≡ set_on link past ++ command ∷ others)
+
+-- at some place a link was lost to which a command had been sent that may have changed something, and the client had nothing of its
+-- reply
+pub data WasHidden (config : Config) : List Item → Type 0 where
+  here : {link : ℕ} {command : Command} {below past : List Item} → Lost link below past → IsHidden config link command below
+      → WasHidden config past
+  since : {item : Item} {past : List Item} → WasHidden config past → WasHidden config (item ∷ past)
+
+-- Behind such a place nothing is sent to a server: what may have been carried out isn't sent again.
+abbrev pub NothingBehindHidden : Type 0
+NothingBehindHidden =
+    (config : Config) (past : List Item) (link : ℕ) (purpose : Purpose) → IsRecord config (Puts (Sends link purpose) ∷ past)
+    → ¬ WasHidden config past
 
 -- A legal record that rests, and doesn't wait for the worker's answer, is answered.
 abbrev pub Answered : Type 0
 Answered =
-    (config : Config) (past : List Item) → IsRecord config past → next config past ≡ None → asking past ≡ None → IsAnswered config past
+    (config : Config) (past : List Item) → IsRecord config past → next config past ≡ None → asking past ≡ false → IsAnswered config past
 
 -- Where a run rests, each of its sessions is answered.
 abbrev pub AnsweredInRuns : Type 0
 AnsweredInRuns =
     (config : Config) (run : List Entry) → IsRun config run → next_entry config run ≡ None → (session : ℕ) (item : Item)
     (past : List Item) → record_of session run ≡ item ∷ past → IsAnswered config (item ∷ past)
+
+-- A session has at most one link to a server.
+abbrev pub OneLinkEach : Type 0
+OneLinkEach =
+    (config : Config) (past : List Item) → IsRecord config past → (one other : ℕ) → Contains (links past) one → Contains (links past) other
+    → server_of one past ≡ server_of other past → one ≡ other
+
+-- In a session that isn't kept on a link, a client's command goes to the server that its last route found. That holds where the
+-- settings have an account, so that each session has a login for its links.
+abbrev pub GoesWhereFound : Type 0
+GoesWhereFound =
+    (config : Config) (past : List Item) (link : ℕ) (command : Command) → config.accounts ≢ []
+    → IsRecord config (Puts (Sends link (Asks command)) ∷ past) → kept_on past ≡ None
+    → (found : Target) × (found_last past ≡ Some found) × IsAt (server_of link past) found

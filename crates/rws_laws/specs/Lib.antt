@@ -1,6 +1,8 @@
 -- what came of a client, and of a server on a link
 pub mod Client
 pub mod Servers
+-- what has set a session on a link
+pub mod History
 -- the laws
 pub mod Causes
 pub mod Answers

@@ -30,10 +30,11 @@ use Rattle.rws_link.specs.declared.step.LinkStep.TheVariants as steps
 use Rattle.rws_link.specs.Handshake.{due, is_served, native_plugin, proof_over, response_of}
 use Rattle.rws_link.specs.Stepping.{Exchange, LogsIn, Rests}
 use Rattle.rws_config.specs.declared.limits.TheConstants.{SERVER_PAYLOAD}
+use Rattle.rws_record.specs.declared.command.Command.{Command}
 use Rattle.rws_record.specs.Item.{Item}
 use Rattle.rws_record.specs.Item.Item.{Began, LinkReady, LinkBytes, LinkLost, Comes, Puts}
 use Rattle.rws_record.specs.Item.Put.{Sends, Drops}
-use Rattle.rws_record.specs.Item.Purpose.{Prepares}
+use Rattle.rws_record.specs.Item.Purpose.{Prepares, Plays}
 use Rattle.rws_record.specs.Values.{asked_on, linked, exchange, link_held}
 
 -- Its payloads
@@ -174,10 +175,18 @@ pub record IsUnprepared (link code : ℕ) (past : List Item) : Type 0 where
   pub asked : asked_on link past ≡ Some Prepares
   pub failed : IsReply QueryReply (came_on link past) (Failed code)
 
+-- an entry of the history was answered by an error, whole now
+pub record Differs (link : ℕ) (past : List Item) : Type 0 where
+  pub came : replied past ≡ Some link
+  pub command : Command
+  pub asked : asked_on link past ≡ Some (Plays command)
+  pub code : ℕ
+  pub failed : IsReply command.kind (came_on link past) (Failed code)
+
 -- The link was prepared at some place: its session began with it, it counted as ready, or its server's whole reply to the
 -- preamble came, which is no error.
 pub data WasPrepared (link : ℕ) : List Item → Type 0 where
-  with_session : {server : ℕ} {past : List Item} → WasPrepared link (Began link server ∷ past)
+  with_session : {server reading : ℕ} {past : List Item} → WasPrepared link (Began link server reading ∷ past)
   as_ready : {past : List Item} → WasPrepared link (LinkReady link ∷ past)
   by_reply : {past : List Item} {said : LinkStep} {status : ℕ} → replied (Comes link said ∷ past) ≡ Some link
       → asked_on link past ≡ Some Prepares → IsReply QueryReply (came_on link (Comes link said ∷ past)) (Done status)
@@ -193,8 +202,7 @@ lost_by link causes.Kept = None
 lost_by link causes.Replay = None
 lost_by link _ = Some link
 
--- the link that was lost last: its server closed it, or it was given up for a fault
-abbrev pub lost : List Item → Option ℕ
-lost (LinkLost link ∷ past) = Some link
-lost (Puts (Drops link cause) ∷ past) = lost_by link cause
-lost _ = None
+-- the newest item loses the link, where this stands below it: its server closed it, or it was given up for a fault
+pub data Lost (link : ℕ) (below : List Item) : List Item → Type 0 where
+  closed : Lost link below (LinkLost link ∷ below)
+  given_up : {cause : DropCause} → lost_by link cause ≡ Some link → Lost link below (Puts (Drops link cause) ∷ below)

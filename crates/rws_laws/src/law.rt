@@ -1,8 +1,8 @@
 //! Laws about a session's record. Each function does nothing; its contract is the law, which is proved with it.
-ghost use Rattle.rws_laws.specs.Laws.{Answered, AnsweredInRuns, Causes, CausesInRuns, WholeReplies};
+ghost use Rattle.rws_laws.specs.Laws.{Answered, AnsweredInRuns, Causes, CausesInRuns, GoesWhereFound, NothingBehindHidden, OneLinkEach, PlaysInOrder, SetsBeforeItAsks, SetsInOrder, WholeReplies};
 
 /// All that a session read, told, opened, sent, dropped and closed has its cause in what stands below it: in the bytes of the
-/// client and of its link.
+/// client and of its links.
 pub fn causes()
     ensures records { Causes }
     ensures runs { CausesInRuns }
@@ -19,4 +19,26 @@ pub fn replies_are_whole()
 pub fn has_answered()
     ensures records { Answered }
     ensures runs { AnsweredInRuns }
+{}
+
+/// Before a client's command goes on a link, the session's history was set there, whole and in order.
+pub fn links_are_set_alike()
+    ensures asked { SetsBeforeItAsks }
+    ensures front { SetsInOrder }
+    ensures played { PlaysInOrder }
+{}
+
+/// A session has at most one link to a server.
+pub fn one_link_each()
+    ensures { OneLinkEach }
+{}
+
+/// A session that isn't kept on a link sends a command to the server that the command's last route found.
+pub fn goes_where_found()
+    ensures { GoesWhereFound }
+{}
+
+/// Where a link is lost, and with it what became of a command that may have changed something, the session sends nothing more.
+pub fn nothing_behind_hidden()
+    ensures { NothingBehindHidden }
 {}
