@@ -3,7 +3,7 @@ use Rattle.std.proofs.Common.{◌≡◌, ℕ, Bool, true, false, List, [], ◌�
 use Rattle.std.specs.Prelude.{◌==◌, if◌then◌else◌}
 use Rattle.rws_config.specs.declared.config.Config.{Config}
 use Rattle.rws_record.specs.Item.{Item}
-use Rattle.rws_record.specs.Item.Item.{Accepted, TurnsAway, Began, ClientBytes, LinkReady, LinkBytes, ClientGone, LinkLost, Routed, Comes, Connects, Takes, Floods, Puts, Starves}
+use Rattle.rws_record.specs.Item.Item.{Accepted, TurnsAway, Began, ClientBytes, LinkReady, LinkBytes, ClientGone, LinkLost, Ticks, Routed, Comes, Connects, Takes, Floods, Puts, Starves}
 use Rattle.rws_record.specs.Item.Put.{Hands, Tells, Routes, Opens, LogsInto, Sends, Drops, Closes}
 use Rattle.rws_record.specs.Values.{links, contains, without}
 use Rattle.rws_record.specs.Record.{IsRecord}
@@ -52,15 +52,16 @@ data Leaves (past : List Item) (item : Item) : Type 0 where
   and_one : (link : ℕ) → links (item ∷ past) ≡ without link (links past) ++ link ∷ [] → Leaves past item
 
 leaves : (past : List Item) (item : Item) → Leaves past item
-leaves past (Accepted session scramble) = all refl
+leaves past (Accepted session scramble reading) = all refl
 leaves past (TurnsAway told) = all refl
-leaves past (Began link server) = and_one link refl
+leaves past (Began link server reading) = and_one link refl
 leaves past (ClientBytes bytes) = all refl
 leaves past (LinkReady link) = all refl
 leaves past (LinkBytes link bytes) = all refl
 leaves past ClientGone = all refl
 leaves past (LinkLost link) = but_one link refl
-leaves past (Routed link server) = all refl
+leaves past (Ticks reading) = all refl
+leaves past (Routed words loads next found) = all refl
 leaves past (Comes link said) = all refl
 leaves past (Connects said) = all refl
 leaves past (Takes judgement number) = all refl
@@ -68,7 +69,7 @@ leaves past (Floods bytes) = all refl
 leaves past (Starves made number) = all refl
 leaves past (Puts (Hands packets)) = all refl
 leaves past (Puts (Tells number tell)) = all refl
-leaves past (Puts (Routes login)) = all refl
+leaves past (Puts Routes) = all refl
 leaves past (Puts (Opens link server login)) = and_one link refl
 leaves past (Puts (LogsInto link packets)) = all refl
 leaves past (Puts (Sends link purpose)) = all refl

@@ -5,23 +5,27 @@ use Rattle.std.specs.Prelude.{◌==◌, ◌||◌, ◌&&◌, is_some, if◌then�
 use Rattle.std.specs.List.{list_any}
 use Rattle.std.specs.Option.{option_map}
 use Rattle.rws_native.specs.declared.login.Login.{Login}
+use Rattle.rws_reply.specs.declared.kind.Outcome.{Outcome}
 use Rattle.rws_reply.specs.declared.kind.Outcome.TheVariants.{Done, Failed}
 use Rattle.rws_reply.specs.declared.kind.Progress.TheVariants.{More, Whole as Ends}
 use Rattle.rws_link.specs.declared.step.LinkStep.{LinkStep}
 use Rattle.rws_link.specs.declared.step.LinkStep.TheVariants as steps
 use Rattle.rws_link.specs.Stepping.{LinkState, LogsIn, Rests, Awaits, IsLost, step}
 use Rattle.rws_link.specs.Linking.{Linking, Takes, is_awaiting, kept}
+use Rattle.rws_record.specs.declared.command.Command.{Command}
 use Rattle.rws_record.specs.Item.{Item, Purpose}
 use Rattle.rws_record.specs.Item.Item.{LinkBytes, LinkReady, Comes, Puts}
-use Rattle.rws_record.specs.Item.Put.{Opens, Sends}
-use Rattle.rws_record.specs.Item.Purpose.{Prepares, Asks}
-use Rattle.rws_record.specs.Values.{asked_on, awaited, contains, exchange, is_up, linked, prepared_by, without}
+use Rattle.rws_record.specs.Item.Put.{Opens, Sends, Tells}
+use Rattle.rws_record.specs.Item.Purpose.{Prepares, Asks, Plays}
+use Rattle.rws_record.specs.Item.Recording.{Accepts}
+use Rattle.rws_record.specs.Item.Tell.{Passes}
+use Rattle.rws_record.specs.Values.{asked_on, awaited, banned_by, contains, cursor as played_on, exchange, is_up, linked, played_by, prepared_by, server_of, without}
 use Rattle.rws_record.specs.Rules.{coming}
 use Rattle.rws_record.proofs.LinkedLemmas.{idle_stays}
 use Rattle.rws_links.specs.declared.coming.Coming.{Coming}
 use Rattle.rws_links.specs.declared.numbered.NumberedLink.{NumberedLink}
 use Rattle.rws_links.specs.Links.{asked_for, link_of, new_link}
-use Rattle.rws_links.specs.Table.{AreDistinct, ReadsFirst, prepares, without_number}
+use Rattle.rws_links.specs.Table.{AreDistinct, ReadsFirst, bans, led, plays, prepares, without_number}
 use Rattle.rws_links.proofs.NumberLemmas.{apart}
 
 pub both : {A : Type 0} {x y : A} {xs ys : List A} → x ≡ y → xs ≡ ys → x ∷ xs ≡ y ∷ ys
@@ -141,14 +145,58 @@ prepares_is (steps.Part payload role More next behind) asked before = refl
 prepares_is (steps.Part payload role (Ends (Done status)) next behind) None before = refl
 prepares_is (steps.Part payload role (Ends (Done status)) next behind) (Some Prepares) before = refl
 prepares_is (steps.Part payload role (Ends (Done status)) next behind) (Some (Asks command)) before = refl
+prepares_is (steps.Part payload role (Ends (Done status)) next behind) (Some (Plays command)) before = refl
 prepares_is (steps.Part payload role (Ends (Failed code)) next behind) asked before = refl
 prepares_is (steps.Lost cause) asked before = refl
+
+-- it has played an entry
+plays_is : (said : LinkStep) (asked : Option Purpose) (before : ℕ) → plays said (option_map asked_for asked) before ≡ played_by said asked before
+plays_is steps.Idle asked before = refl
+plays_is (steps.Send bytes) asked before = refl
+plays_is steps.LoggedIn asked before = refl
+plays_is (steps.Part payload role More next behind) asked before = refl
+plays_is (steps.Part payload role (Ends (Done status)) next behind) None before = refl
+plays_is (steps.Part payload role (Ends (Done status)) next behind) (Some Prepares) before = refl
+plays_is (steps.Part payload role (Ends (Done status)) next behind) (Some (Asks command)) before = refl
+plays_is (steps.Part payload role (Ends (Done status)) next behind) (Some (Plays command)) before = refl
+plays_is (steps.Part payload role (Ends (Failed code)) next behind) asked before = refl
+plays_is (steps.Lost cause) asked before = refl
+
+-- its server is banned
+pub bans_is : (said : LinkStep) (asked : Option Purpose) (server before : ℕ)
+    → bans said (option_map asked_for asked) server before ≡ banned_by said asked server before
+bans_is steps.Idle asked server before = refl
+bans_is (steps.Send bytes) asked server before = refl
+bans_is steps.LoggedIn asked server before = refl
+bans_is (steps.Part payload role More next behind) asked server before = refl
+bans_is (steps.Part payload role (Ends (Done status)) next behind) asked server before = refl
+bans_is (steps.Part payload role (Ends (Failed code)) next behind) None server before = refl
+bans_is (steps.Part payload role (Ends (Failed code)) next behind) (Some Prepares) server before = refl
+bans_is (steps.Part payload role (Ends (Failed code)) next behind) (Some (Asks command)) server before = refl
+bans_is (steps.Part payload role (Ends (Failed code)) next behind) (Some (Plays command)) server before = refl
+bans_is (steps.Lost cause) asked server before = refl
+
+-- a link led an entry
+pub led_is : (past : List Item) (number from : ℕ) (command : Command) (payload : List ℕ) (outcome : Outcome) (links : List ℕ)
+    → map (led from) (map (link_of past) links) ≡ map (link_of (Puts (Tells number (Passes from command payload (Some outcome) Accepts)) ∷ past)) links
+led_is past number from command payload outcome [] = refl
+led_is past number from command payload outcome (link ∷ others) =
+    both (by_test (link == from) refl) (led_is past number from command payload outcome others)
+  where
+    by_test : (test : Bool) → (link == from) ≡ test
+        → led from (link_of past link) ≡ link_of (Puts (Tells number (Passes from command payload (Some outcome) Accepts)) ∷ past) link
+    by_test true t = let same : (from == link) ≡ true = eq-eqb from link (sym (eqb-true link from t)) in rw (t, same) refl
+    by_test false t = rw (t, apart link from t) refl
+
+whole_by : (l : NumberedLink) {up up' : Bool} {cursor cursor' : ℕ} {link link' : Linking} → up ≡ up' → cursor ≡ cursor' → link ≡ link'
+    → record l { is_up = up; cursor = cursor; link = link } ≡ record l { is_up = up'; cursor = cursor'; link = link' }
+whole_by l u c k = cc
 
 -- the first link says something
 pub read_here : (past : List Item) (numbers : List ℕ) (link new : NumberedLink) (others : List NumberedLink) (said : LinkStep) (found : Coming)
     (after : Linking) → link ∷ others ≡ map (link_of past) numbers → AreDistinct numbers → (said ≡ steps.Idle → ⊥)
-    → found ≡ record { link = link.number; said = said; asked = link.asked }
-    → new ≡ record link { is_up = prepares said link.asked link.is_up; link = after }
+    → found ≡ record { link = link.number; server = link.server; said = said; asked = link.asked }
+    → new ≡ record link { is_up = prepares said link.asked link.is_up; cursor = plays said link.asked link.cursor; link = after }
     → ((state : LinkState) → link.link ≡ kept state → Takes (step state) said after)
     → ReadsFirst past numbers (Some found) (new ∷ others)
 read_here past numbers link new others said found after are distinct not_idle found_is new_is takes =
@@ -156,16 +204,18 @@ read_here past numbers link new others said found after are distinct not_idle fo
     let t = takes (linked s.first past) (ap (λ (l : NumberedLink). l.link) s.is) in
     let whole : new ≡ record (link_of past s.first) {
       is_up = prepared_by said (asked_on s.first past) (is_up s.first past);
+      cursor = played_by said (asked_on s.first past) (played_on s.first past);
       link = kept (step (linked s.first past)).after;
     } =
-    new_is ∙ ap (λ (l : NumberedLink). record l { is_up = prepares said l.asked l.is_up; link = after }) s.is
-    ∙ ap (λ (up : Bool). record (link_of past s.first) { is_up = up; link = after }) (prepares_is said (asked_on s.first past) (is_up s.first past))
-    ∙ ap (λ (k : Linking). record (link_of past s.first) { is_up = prepared_by said (asked_on s.first past) (is_up s.first past); link = k }) t.1 in
-    let is : found ≡ record { link = s.first; said = said; asked = option_map asked_for (asked_on s.first past) } =
-    found_is ∙ ap (λ (l : NumberedLink). record { link = l.number; said = said; asked = l.asked }) s.is in
+    new_is ∙ ap (λ (l : NumberedLink). record l { is_up = prepares said l.asked l.is_up; cursor = plays said l.asked l.cursor; link = after }) s.is
+    ∙ whole_by (link_of past s.first) (prepares_is said (asked_on s.first past) (is_up s.first past))
+    (plays_is said (asked_on s.first past) (played_on s.first past)) t.1 in
+    let is : found ≡ record { link = s.first; server = server_of s.first past; said = said; asked = option_map asked_for (asked_on s.first past) } =
+    found_is ∙ ap (λ (l : NumberedLink). record { link = l.number; server = l.server; said = said; asked = l.asked }) s.is in
     rw s.are (subst (λ (f : Coming). ReadsFirst past (s.first ∷ s.rest) (Some f) (new ∷ others)) (sym is) (
       rw (← t.0) (rw (said_not_idle s.first said not_idle) refl),
       rw (itself s.first) refl,
+      refl,
       refl,
       changes_first past (Comes s.first said) s.first (coming_about past s.first said) s.rest new others s.behind s.apart_all
           (rw (itself s.first) whole),
@@ -198,8 +248,9 @@ read_behind past numbers link new others behind are distinct stays_so takes resu
           rw idle there.0,
           rw differ there.1,
           there.2,
+          there.3,
           changes_behind past (Comes found.link found.said) found.link (coming_about past found.link found.said) first rest new behind is differ
-              there.3,
+              there.4,
         )
 
 -- a link of this number is there

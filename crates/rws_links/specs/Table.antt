@@ -1,20 +1,21 @@
 -- The links that a session has, as code keeps them.
-use Rattle.std.specs.Prelude.{◌≡◌, ℕ, Bool, true, false, not, ◌==◌, ◌&&◌, List, [], ◌∷◌, filter, map, Option, Some, None, if◌then◌else◌}
+use Rattle.std.specs.Prelude.{◌≡◌, ℕ, ◌+◌, Bool, true, false, not, ◌==◌, ◌&&◌, List, [], ◌∷◌, filter, map, Option, Some, None, if◌then◌else◌}
 use Rattle.std.specs.Option.{option_map}
 use Rattle.rws_reply.specs.declared.kind.Kind.{Kind}
-use Rattle.rws_reply.specs.declared.kind.Outcome.TheVariants.{Done}
+use Rattle.rws_reply.specs.declared.kind.Outcome.TheVariants.{Done, Failed}
 use Rattle.rws_reply.specs.declared.kind.Progress.TheVariants.{Whole as Ends}
 use Rattle.rws_link.specs.declared.step.LinkStep.{LinkStep}
 use Rattle.rws_link.specs.declared.step.LinkStep.TheVariants as steps
 use Rattle.rws_link.specs.Linking.{IsReady, kept}
 use Rattle.rws_link.specs.Stepping.{Rests, is_new, sent}
+use Rattle.rws_routing.specs.Routings.{with_server}
 use Rattle.rws_record.specs.Item.{Item, Purpose}
 use Rattle.rws_record.specs.Item.Item.{Comes, LinkReady, Puts}
 use Rattle.rws_record.specs.Item.Put.{Sends}
-use Rattle.rws_record.specs.Values.{asked_on, contains, is_up, kind_of, linked, sent_for}
+use Rattle.rws_record.specs.Values.{asked_on, contains, is_up, kind_of, linked, sent_for, server_of}
 use Rattle.rws_record.specs.Rules.{due_arrival, is_ready, is_same}
 use Rattle.rws_links.specs.declared.numbered.Asked.{Asked}
-use Rattle.rws_links.specs.declared.numbered.Asked.TheVariants.{Preamble, Command as ACommand}
+use Rattle.rws_links.specs.declared.numbered.Asked.TheVariants.{Preamble, Entry as AnEntry, Command as ACommand}
 use Rattle.rws_links.specs.declared.coming.Coming.{Coming}
 use Rattle.rws_links.specs.declared.numbered.NumberedLink.{NumberedLink}
 use Rattle.rws_links.specs.Links.{asked_for, link_of}
@@ -35,7 +36,7 @@ abbrev pub ReadsFirst : List Item → List ℕ → Option Coming → List Number
 ReadsFirst past links None new = (due_arrival links past ≡ None) × (new ≡ map (link_of past) links)
 ReadsFirst past links (Some found) new =
     (due_arrival links past ≡ Some (Comes found.link found.said)) × (contains found.link links ≡ true)
-    × (found.asked ≡ option_map asked_for (asked_on found.link past))
+    × (found.asked ≡ option_map asked_for (asked_on found.link past)) × (found.server ≡ server_of found.link past)
     × (new ≡ map (link_of (Comes found.link found.said ∷ past)) links)
 
 -- Sending
@@ -44,9 +45,10 @@ ReadsFirst past links (Some found) new =
 abbrev pub IsSending : Asked → List ℕ → Kind → Purpose → Type 0
 IsSending asked payload kind purpose = (asked_for purpose ≡ asked) × (sent_for purpose ≡ payload) × (kind_of purpose ≡ kind)
 
--- commands of the client go on links that are prepared
+-- entries of the history and commands of the client go on links that are prepared
 abbrev pub needs_prepared : Asked → Bool
 needs_prepared Preamble = false
+needs_prepared AnEntry = true
 needs_prepared ACommand = true
 
 abbrev pub MayBeSent : Asked → NumberedLink → Type 0
@@ -78,6 +80,11 @@ abbrev pub is_whole : LinkStep → Bool
 is_whole (steps.Part payload role (Ends (Done status)) next behind) = true
 is_whole _ = false
 
+-- or by an error
+abbrev pub is_failed : LinkStep → Bool
+is_failed (steps.Part payload role (Ends (Failed code)) next behind) = true
+is_failed _ = false
+
 abbrev pub is_preamble : Option Asked → Bool
 is_preamble (Some Preamble) = true
 is_preamble _ = false
@@ -85,6 +92,22 @@ is_preamble _ = false
 -- the whole reply to its preamble, without an error, prepares a link
 abbrev pub prepares : LinkStep → Option Asked → Bool → Bool
 prepares said asked before = if (is_whole said && is_preamble asked) then true else before
+
+abbrev pub is_entry : Option Asked → Bool
+is_entry (Some AnEntry) = true
+is_entry _ = false
+
+-- with that to an entry of the history it has played one more
+abbrev pub plays : LinkStep → Option Asked → ℕ → ℕ
+plays said asked before = if (is_whole said && is_entry asked) then before + 1 else before
+
+-- a server that answers an entry by an error is one more of those that are banned
+abbrev pub bans : LinkStep → Option Asked → (server : ℕ) → ℕ → ℕ
+bans said asked server before = if (is_failed said && is_entry asked) then with_server server before else before
+
+-- the link of this number led an entry
+abbrev pub led : ℕ → NumberedLink → NumberedLink
+led number link = if link.number == number then record link { cursor = link.cursor + 1 } else link
 
 -- A new link of a record counts as ready, or there is none of this number.
 abbrev pub ReadiesOn : ℕ → List Item → List ℕ → Bool → List NumberedLink → Type 0

@@ -2,10 +2,12 @@
 ghost use Rattle.std.specs.Prelude.{◌≡◌, List, ℕ, IfOk, map};
 ghost use Rattle.rws_record.specs.Item.{Item};
 ghost use Rattle.rws_links.specs.Links.{link_of, number_of};
-ghost use Rattle.rws_links.specs.Table.{AreDistinct, ReadsFirst};
+ghost use Rattle.rws_links.specs.Table.{AreDistinct, ReadsFirst, bans, is_failed};
+ghost use Rattle.rws_routing.specs.Routings.{with_server};
 
 use crate::{Asked, NumberedLink};
 use rws_link::LinkStep;
+use rws_reply::{Outcome, Progress};
 use std::alloc::AllocError;
 
 /// What a link said.
@@ -13,10 +15,45 @@ use std::alloc::AllocError;
 pub struct Coming {
     /// The number of the link that said it.
     pub link: u64,
+    /// The server of the settings that the link leads to.
+    pub server: u8,
     /// What it said, which isn't `Idle`.
     pub said: LinkStep,
     /// What was sent on it last, which a payload of a reply answers.
     pub asked: Option<Asked>,
+}
+
+impl Coming {
+    /// A set of servers with that of the link, where it answered an entry of the history by an error: it isn't as the server that
+    /// the entry was first sent to.
+    pub fn bans(&self, before: u8) -> u8
+        ensures { result ≡ bans self.now.said self.now.asked self.now.server before }
+    {
+        if is_failed(&self.said) && self.asked == Some(Asked::Entry) {
+            return with_server(self.server, before);
+        }
+        before
+    }
+}
+
+/// It is the end of a reply by an error.
+fn is_failed(said: &LinkStep) -> bool
+    ensures { result ≡ is_failed said.now }
+{
+    match said {
+        LinkStep::Part {
+            progress: Progress::Whole(Outcome::Failed { .. }),
+            ..
+        } => true,
+        _ => false,
+    }
+}
+
+/// A set of servers with one more of the seven that settings may name.
+fn with_server(server: u8, set: u8) -> u8
+    ensures { result ≡ with_server server set }
+{
+    if server < 7 { set | (1 << server) } else { set }
 }
 
 /// Asks links in their order, up to the first that has something to say.
@@ -29,7 +66,7 @@ pub(crate) fn read_first(links: &mut [NumberedLink]) -> Result<Option<Coming>, A
         None => Ok(None),
         Some((first, others)) => match first.link.next()? {
             LinkStep::Idle => read_first(others),
-            said => Ok(Some(first.hear(said))),
+            said => Ok(Some(first.hear(said)?)),
         },
     }
 }

@@ -1,14 +1,25 @@
-//! The links of a session, in a table by number: what each was asked for, what comes on them, and the login that new ones repeat.
+//! The links of a session, in a table by number: what each was asked for, what comes on them, how far each has come in the session's
+//! history, and the login that new ones repeat.
 #![tactic(auto)]
 
 mod coming;
+mod command;
+mod finding;
+mod history;
 mod login;
+mod loss;
 mod numbered;
+mod own;
 mod table;
 
 pub use coming::Coming;
+pub use command::{ClassedCommand, is_forbidden};
+pub use finding::{Count, Due, autocommit_behind, is_link, server_in};
+pub use history::Recording;
 pub use login::LinkLogin;
+pub use loss::{closing, drop_cause, is_loss};
 pub use numbered::{Asked, NumberedLink};
+pub use own::{own_ok, own_status, reserve_farewell};
 pub use table::LinkTable;
 
 #[cfg(test)]

@@ -1,13 +1,19 @@
 //! The login that links repeat.
-ghost use Rattle.std.specs.Prelude.{◌≡◌, IfOk, IfSome};
+ghost use Rattle.std.specs.Prelude.{◌≡◌, IfOk, IfSome, None};
 ghost use Rattle.rws_link.specs.Linking.{kept};
 ghost use Rattle.rws_link.specs.Stepping.{opened};
 ghost use Rattle.rws_msgs.specs.Fields.{HasNoZero};
+ghost use Rattle.rws_config.specs.Allowed.{IsAllowed};
+ghost use Rattle.rws_record.specs.Values.{first_login};
 
+use rws_config::{Account, Config};
 use rws_link::Link;
 use rws_native::Login;
 use std::alloc::{AllocError, Global};
 use std::marker::Model;
+
+/// utf8mb4_general_ci
+const CHARSET: u8 = 45;
 
 /// A login whose user and database can be sent to a server: neither holds a zero byte.
 ///
@@ -37,6 +43,33 @@ impl LinkLogin {
         ensures { result ≡ login }
     {
         LinkLogin { login }
+    }
+
+    /// The login of a session that begins with the commands: that of the settings' first account, without a password.
+    pub fn first(config: &Config) -> Result<Option<LinkLogin>, AllocError>
+        requires { IsAllowed config.now }
+        ensures { IfOk result (λ login. login ≡ first_login config.now.accounts) }
+    {
+        match config.accounts.as_slice() {
+            [] => Ok(None),
+            [account, ..] => Ok(Some(LinkLogin::of_account(account)?)),
+        }
+    }
+
+    /// The login of an account without a password.
+    fn of_account(account: &Account) -> Result<LinkLogin, AllocError>
+        requires { HasNoZero account.now.user }
+        ensures { IfOk result (λ login. login ≡ record { user = account.now.user; stage1 = None; database = None; charset = 45; flags = 0 }) }
+    {
+        Ok(LinkLogin {
+            login: Login {
+                user: account.user.clone()?,
+                stage1: None,
+                database: None,
+                charset: CHARSET,
+                flags: 0,
+            },
+        })
     }
 
     /// The same login once more.

@@ -2,19 +2,22 @@
 //!
 //! What a link is and does is said by `rws_link`, and what of it is kept, as a function of a record, by `link_of` of
 //! specs/Links.antt. The table of a record is `link_of` of each of its links.
-ghost use Rattle.std.specs.Prelude.{◌≡◌, ◌==◌, ◌<◌, ◌&&◌, ◌∷◌, ◌++◌, [], List, None, ℕ, IfOk, IfSome, OnErr, OnOk, MatchOption, length, map, true, if◌then◌else◌};
+ghost use Rattle.std.specs.Prelude.{◌≡◌, ◌==◌, ◌<◌, ◌&&◌, ◌∷◌, ◌++◌, [], List, None, ℕ, IfOk, IfSome, OnErr, OnOk, MatchOption, length, count_by, map, true, if◌then◌else◌};
 ghost use Rattle.std.specs.List.{list_any, position};
 ghost use Rattle.rws_wire.specs.Packets.{spelling};
 ghost use Rattle.rws_link.specs.Stepping.{Rests};
 ghost use Rattle.rws_link.specs.Linking.{is_awaiting, kept};
 ghost use Rattle.rws_record.specs.Item.{Item, Purpose};
 ghost use Rattle.rws_record.specs.Item.Item.{LinkBytes};
-ghost use Rattle.rws_record.specs.Item.Purpose.{Asks};
+ghost use Rattle.rws_record.specs.Item.Purpose.{Asks, Plays};
+ghost use Rattle.rws_links.specs.Finding.{first_due, first_to, leads_to, owes_to};
 ghost use Rattle.rws_links.specs.Links.{link_of, new_link, number_of};
-ghost use Rattle.rws_links.specs.Table.{AreDistinct, IsSending, ReadiesOn, ReadsFirst, SendsOn, has_number, without_number};
+ghost use Rattle.rws_links.specs.Table.{AreDistinct, IsSending, ReadiesOn, ReadsFirst, SendsOn, has_number, led, without_number};
 
 use crate::coming::read_first;
-use crate::{Asked, Coming, LinkLogin, NumberedLink};
+use crate::finding::{first_due, first_to, load_of};
+use crate::history::lead;
+use crate::{Asked, Coming, Count, Due, LinkLogin, NumberedLink};
 use rws_link::Link;
 use rws_native::Login;
 use rws_record::Command;
@@ -46,7 +49,7 @@ impl Model for LinkTable {
 impl LinkTable {
     /// A table of one link, to a server of the settings, that is ready for commands.
     pub fn begin(alloc: Global, number: u64, server: u8) -> Result<LinkTable, AllocError>
-        ensures { IfOk result (λ table. table ≡ record { number = number; server = server; is_up = true; asked = None; link = kept Rests } ∷ []) }
+        ensures { IfOk result (λ table. table ≡ record { number = number; server = server; is_up = true; asked = None; cursor = 0; link = kept Rests } ∷ []) }
     {
         let mut links = Vec::new(alloc);
         links.push(NumberedLink {
@@ -54,6 +57,7 @@ impl LinkTable {
             server,
             is_up: true,
             asked: None,
+            cursor: 0,
             link: ready_link(alloc)?,
         })?;
         Ok(LinkTable { links })
@@ -88,6 +92,7 @@ impl LinkTable {
             server,
             is_up: false,
             asked: None,
+            cursor: 0,
             link,
         })?;
         Ok(())
@@ -138,6 +143,30 @@ impl LinkTable {
             .any(|link| link.number == number && link.link.is_awaiting())
     }
 
+    /// The link that the session has to a server, by its number: the first one.
+    pub fn to_server(&self, server: u8) -> Option<u64>
+        ensures { result ≡ first_to server self.now }
+    {
+        first_to(self.links.as_slice(), server)
+    }
+
+    /// How many links there are to a server.
+    pub fn load(&self, server: u8) -> Count
+        ensures links { result.links ≡ count_by (leads_to server) self.now }
+        ensures pending { result.pending ≡ count_by (owes_to server) self.now }
+    {
+        load_of(self.links.as_slice(), server)
+    }
+
+    /// The first link on which something is due, in order of number: the preamble on one that is logged in and isn't prepared; an
+    /// entry of the history, which has so many, on one that is prepared, owes no reply and has some to play; and a command
+    /// that waits for link `goes` on that one, behind those.
+    pub fn due(&self, goes: Option<u64>, entries: usize) -> Option<Due>
+        ensures { result ≡ first_due goes entries self.now }
+    {
+        first_due(self.links.as_slice(), goes, entries)
+    }
+
     /// Bytes came on a link: it holds them until it is read. On a link that isn't there they change nothing.
     pub fn feed(&mut self, number: u64, bytes: &[u8]) -> Result<(), AllocError>
         ensures ok { (past : List Item) (links : List ℕ) → self.old ≡ map (link_of past) links → AreDistinct links
@@ -154,8 +183,8 @@ impl LinkTable {
     }
 
     /// Sends something on a link, which a reply of this kind answers, if the link is there and may be sent it; the answer is whether
-    /// it was. A command goes on a link that is prepared, the preamble on one that isn't, both on one that has logged in and
-    /// owes no reply. What goes out is appended to `out`, as packets from the number 0 on.
+    /// it was. Entries and commands go on a link that is prepared, the preamble on one that isn't, all on one that has logged in
+    /// and owes no reply. What goes out is appended to `out`, as packets from the number 0 on.
     pub fn send(
         &mut self,
         number: u64,
@@ -195,6 +224,30 @@ impl LinkTable {
         self.send(number, Asked::Command, payload, command.kind, out)
     }
 
+    /// Sends an entry of the history on a link, if that is there and may be sent one; the answer is whether it was.
+    pub fn send_entry(
+        &mut self,
+        number: u64,
+        entry: &Command,
+        out: &mut Vec<u8>,
+    ) -> Result<bool, AllocError>
+        ensures ok { (past : List Item) (links : List ℕ) → self.old ≡ map (link_of past) links → AreDistinct links
+            → IfOk result (λ went. SendsOn number (Plays entry.now) past links went self.new) }
+        ensures out { IfOk result (λ went. out.new.items ≡ out.old.items ++ (if went then spelling 0 entry.now.payload else [])) }
+        ensures numbers { map number_of self.new ≡ map number_of self.old }
+    {
+        let payload = entry.payload.as_slice();
+        self.send(number, Asked::Entry, payload, entry.kind, out)
+    }
+
+    /// A link led an entry of the history: it has come one further there.
+    pub fn lead(&mut self, number: u64) -> Result<(), AllocError>
+        ensures ok { OnOk result (self.new ≡ map (led number) self.old) }
+        ensures numbers { map number_of self.new ≡ map number_of self.old }
+    {
+        lead(self.links.as_mut_slice(), number)
+    }
+
     /// A link is lost, or given up: it is taken away, and what it holds is forgotten.
     pub fn remove(&mut self, number: u64)
         ensures { self.new ≡ without_number number self.old }
@@ -213,7 +266,7 @@ impl LinkTable {
     }
 
     /// Asks the links in order of number, up to the first that has something to say. What it says is taken out of it: a whole reply
-    /// without an error to the preamble has prepared it then.
+    /// without an error to the preamble has prepared it then, and with one to an entry it has played that.
     pub fn read(&mut self) -> Result<Option<Coming>, AllocError>
         ensures ok { (past : List Item) (links : List ℕ) → self.old ≡ map (link_of past) links → AreDistinct links
             → IfOk result (λ found. ReadsFirst past links found self.new) }

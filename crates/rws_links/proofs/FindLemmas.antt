@@ -1,0 +1,239 @@
+-- What is found in the table of a record is what the record says.
+use Rattle.std.proofs.Common.{◌≡◌, ℕ, Bool, true, false, List, [], ◌∷◌, map, length, filter, refl, sym, ap, subst, ◌∙◌, Option, Some, None, ◌<◌, ◌≤◌, ◌⊎◌, inl, inr, get_or}
+use Rattle.std.proofs.lemmas.Bool.{lt-ltb, le-ltb}
+use Rattle.std.proofs.lemmas.Option.{slice_get_cases}
+use Rattle.std.proofs.lemmas.Bool.{and_parts}
+use Rattle.std.proofs.lemmas.List.Sums.{length-filter}
+use Rattle.std.specs.Prelude.{◌==◌, ◌&&◌, count_by, is_some, is_none, nat_lt, slice_get, if◌then◌else◌}
+use Rattle.rws_link.specs.Stepping.{LinkState, LogsIn, Rests, Awaits, IsLost}
+use Rattle.rws_link.specs.Linking.{is_awaiting, kept}
+use Rattle.rws_routing.specs.Routings.{is_at}
+use Rattle.rws_config.specs.declared.config.Config.{Config}
+use Rattle.rws_record.specs.declared.command.Command.{Command}
+use Rattle.rws_record.specs.Item.{Item}
+use Rattle.rws_record.specs.Item.Item.{Puts}
+use Rattle.rws_record.specs.Item.Put.{Sends}
+use Rattle.rws_record.specs.Item.Purpose.{Prepares, Asks, Plays}
+use Rattle.rws_record.specs.Values.{accepted, awaited, contains, cursor as played_on, goes_on, is_up, linked, links, pending, sent_on, server_of}
+use Rattle.rws_record.specs.Values.{first_to as first_link_to}
+use Rattle.rws_record.specs.Rules.{◌or◌, ask_by, due_sends, is_link, is_ready, is_same, play_by, prepare_by}
+use Rattle.rws_record.specs.Run.{is_owed_on}
+use Rattle.rws_links.specs.declared.finding.Due.{Due}
+use Rattle.rws_links.specs.declared.numbered.Asked.{Asked}
+use Rattle.rws_links.specs.declared.numbered.Asked.TheVariants.{Preamble, Entry as AnEntry, Command as ACommand}
+use Rattle.rws_links.specs.Finding.{due_by, due_on, first_due, first_to, is_open, leads_to, or_behind, owes_to}
+use Rattle.rws_links.specs.Links.{link_of}
+use Rattle.rws_links.specs.Table.{needs_prepared}
+use Rattle.rws_links.proofs.TableLemmas.{itself}
+
+-- The links to a server
+
+pub first_is : (past : List Item) (server : ℕ) (links : List ℕ) → first_to server (map (link_of past) links) ≡ first_link_to server links past
+first_is past server [] = refl
+first_is past server (link ∷ others) = by_test (server_of link past == server) (first_is past server others)
+  where
+    by_test : (test : Bool) → first_to server (map (link_of past) others) ≡ first_link_to server others past
+        → (if test then Some link else first_to server (map (link_of past) others)) ≡ (if test then Some link else first_link_to server others past)
+    by_test true behind = refl
+    by_test false behind = behind
+
+links_filtered : (past : List Item) (server : ℕ) (links : List ℕ)
+    → length (filter (leads_to server) (map (link_of past) links)) ≡ length (filter (λ link. server_of link past == server) links)
+links_filtered past server [] = refl
+links_filtered past server (link ∷ others) = by_test (server_of link past == server) refl (links_filtered past server others)
+  where
+    by_test : (test : Bool) → (server_of link past == server) ≡ test
+        → length (filter (leads_to server) (map (link_of past) others)) ≡ length (filter (λ link. server_of link past == server) others)
+        → length (filter (leads_to server) (map (link_of past) (link ∷ others)))
+        ≡ length (filter (λ link. server_of link past == server) (link ∷ others))
+    by_test true t behind = rw (t, behind) refl
+    by_test false t behind = rw t behind
+
+pub links_are : (past : List Item) (server : ℕ) (links : List ℕ)
+    → count_by (leads_to server) (map (link_of past) links) ≡ length (filter (λ link. server_of link past == server) links)
+links_are past server links = sym (length-filter (leads_to server) (map (link_of past) links)) ∙ links_filtered past server links
+
+awaits_is : (state : LinkState) → is_awaiting (kept state) ≡ is_some (awaited state)
+awaits_is (LogsIn handshake unread) = refl
+awaits_is Rests = refl
+awaits_is (Awaits e unread) = refl
+awaits_is (IsLost cause) = refl
+
+pending_filtered : (past : List Item) (server : ℕ) (links : List ℕ)
+    → length (filter (owes_to server) (map (link_of past) links))
+    ≡ length (filter (λ link. is_owed_on link past) (filter (λ link. server_of link past == server) links))
+pending_filtered past server [] = refl
+pending_filtered past server (link ∷ others) =
+    by_tests (server_of link past == server) (is_owed_on link past) refl refl (pending_filtered past server others)
+  where
+    by_tests : (to owed : Bool) → (server_of link past == server) ≡ to → is_owed_on link past ≡ owed
+        → length (filter (owes_to server) (map (link_of past) others))
+        ≡ length (filter (λ link. is_owed_on link past) (filter (λ link. server_of link past == server) others))
+        → length (filter (owes_to server) (map (link_of past) (link ∷ others)))
+        ≡ length (filter (λ link. is_owed_on link past) (filter (λ link. server_of link past == server) (link ∷ others)))
+    by_tests true true t o behind = rw (t, awaits_is (linked link past), o, behind) refl
+    by_tests true false t o behind = rw (t, awaits_is (linked link past), o) behind
+    by_tests false owed t o behind = rw t behind
+
+pub pending_are : (past : List Item) (server : ℕ) (links : List ℕ)
+    → count_by (owes_to server) (map (link_of past) links)
+    ≡ length (filter (λ link. is_owed_on link past) (filter (λ link. server_of link past == server) links))
+pending_are past server links = sym (length-filter (owes_to server) (map (link_of past) links)) ∙ pending_filtered past server links
+
+-- What is due
+
+-- an entry of the history is played on a link
+abbrev pub playing : ℕ → Option Command → Option Item
+playing link (Some entry) = Some (Puts (Sends link (Plays entry)))
+playing link None = None
+
+-- the item of what is due, where the history is this one and this command waits
+abbrev pub item_of : List Command → Option Command → (link entry : ℕ) → Asked → Option Item
+item_of history command link entry Preamble = Some (Puts (Sends link Prepares))
+item_of history command link entry AnEntry = playing link (slice_get history entry)
+item_of history (Some command) link entry ACommand = Some (Puts (Sends link (Asks command)))
+item_of history None link entry ACommand = None
+
+abbrev pub due_item : List Command → Option Command → Option Due → Option Item
+due_item history command (Some due) = item_of history command due.link due.entry due.asked
+due_item history command None = None
+
+-- the link that a command waits for
+abbrev pub waits_for : Option Command → (sent goes : Option ℕ) → Option ℕ
+waits_for command sent goes = if (is_some command && is_none sent) then goes else None
+
+-- a link has an entry to play where there is one at its place
+plays_is : (history : List Command) (cursor : ℕ) → nat_lt cursor (length history) ≡ is_some (slice_get history cursor)
+plays_is history cursor = by_get (slice_get_cases history cursor).1
+  where
+    by_get : ((x : Command) × (cursor < length history) × (slice_get history cursor ≡ Some x) × (get_or history cursor x ≡ x))
+        ⊎ ((length history ≤ cursor) × (slice_get history cursor ≡ None))
+        → nat_lt cursor (length history) ≡ is_some (slice_get history cursor)
+    by_get (inl there) = rw (there.2, lt-ltb cursor (length history) there.1) refl
+    by_get (inr past) = rw (past.1, le-ltb cursor (length history) past.0) refl
+
+abbrev due_so : (ready up : Bool) → ℕ → (entry : Option Command) → (goes : Option ℕ) → Option Command → (sent : Option ℕ) → Option Item
+due_so ready up link entry goes command sent =
+    prepare_by (is_same false up && ready) link
+    or (play_by (is_same true up && ready) link entry
+    or ask_by (is_same true up && ready) link (is_link link goes) command sent)
+
+-- a command is due on a link that has played all
+ask_is : (history : List Command) (cursor link : ℕ) (goes : Option ℕ) (command : Option Command) (sent : Option ℕ) (item : Option Item)
+    (due : Option Due) → item ≡ due_item history command due
+    → ask_by true link (is_link link goes) command sent or item
+    ≡ due_item history command (or_behind (due_by true true false (is_at link (waits_for command sent goes))) link cursor due)
+ask_is history cursor link goes None sent item due e = by_goes goes
+  where
+    by_goes : (goes : Option ℕ) → ask_by true link (is_link link goes) None sent or item ≡ due_item history None due
+    by_goes None = e
+    by_goes (Some other) = by_test (other == link)
+      where
+        by_test : (test : Bool) → ask_by true link test None sent or item ≡ due_item history None due
+        by_test true = e
+        by_test false = e
+ask_is history cursor link None (Some command) None item due e = e
+ask_is history cursor link (Some other) (Some command) None item due e = by_test (other == link)
+  where
+    by_test : (test : Bool) → ask_by true link test (Some command) None or item
+        ≡ due_item history (Some command) (or_behind (due_by true true false test) link cursor due)
+    by_test true = refl
+    by_test false = e
+ask_is history cursor link None (Some command) (Some on) item due e = e
+ask_is history cursor link (Some other) (Some command) (Some on) item due e = by_test (other == link)
+  where
+    by_test : (test : Bool) → ask_by true link test (Some command) (Some on) or item ≡ due_item history (Some command) due
+    by_test true = e
+    by_test false = e
+
+step_is : (history : List Command) (cursor : ℕ) (ready up : Bool) (link : ℕ) (goes : Option ℕ) (command : Option Command) (sent : Option ℕ)
+    (item : Option Item) (due : Option Due) → item ≡ due_item history command due
+    → due_so ready up link (slice_get history cursor) goes command sent or item
+    ≡ due_item history command
+    (or_behind (due_by ready up (nat_lt cursor (length history)) (is_at link (waits_for command sent goes))) link cursor due)
+step_is history cursor false true link goes command sent item due e = e
+step_is history cursor false false link goes command sent item due e = e
+step_is history cursor true false link goes command sent item due e = refl
+step_is history cursor true true link goes command sent item due e = by_entry (slice_get history cursor) refl
+  where
+    by_entry : (entry : Option Command) → slice_get history cursor ≡ entry
+        → due_so true true link entry goes command sent or item
+        ≡ due_item history command
+        (or_behind (due_by true true (nat_lt cursor (length history)) (is_at link (waits_for command sent goes))) link cursor due)
+    by_entry None none = rw (plays_is history cursor, none) (ask_is history cursor link goes command sent item due e)
+    by_entry (Some entry) is = rw (plays_is history cursor, is) (sym (ap (playing link) is))
+
+open_is : (state : LinkState) → is_open (kept state) ≡ is_ready state
+open_is (LogsIn handshake unread) = refl
+open_is Rests = refl
+open_is (Awaits e unread) = refl
+open_is (IsLost cause) = refl
+
+pub due_is : (config : Config) (past : List Item) (numbers : List ℕ)
+    → ((link : ℕ) → contains link numbers ≡ true → contains link (links past) ≡ true)
+    → due_sends config numbers past
+    ≡ due_item (accepted past) (pending past)
+    (first_due (waits_for (pending past) (sent_on past) (goes_on config past)) (length (accepted past)) (map (link_of past) numbers))
+due_is config past [] has = refl
+due_is config past (link ∷ others) has =
+    rw (has link (rw (itself link) refl), open_is (linked link past))
+    (step_is (accepted past) (played_on link past) (is_ready (linked link past)) (is_up link past) link (goes_on config past) (pending past)
+    (sent_on past) _ _ (due_is config past others (λ other in_others. has other (behind other in_others))))
+  where
+    behind : (other : ℕ) → contains other others ≡ true → contains other (link ∷ others) ≡ true
+    behind other in_others = by_test (link == other)
+      where
+        by_test : (test : Bool) → (if test then true else contains other others) ≡ true
+        by_test true = refl
+        by_test false = in_others
+
+-- where something is due it may go
+may_go : (ready up plays goes : Bool) (asked : Asked) → due_by ready up plays goes ≡ Some asked
+    → (is_same (needs_prepared asked) up && ready) ≡ true
+may_go true false plays goes Preamble e = refl
+may_go true false plays goes AnEntry e = absurd cc
+may_go true false plays goes ACommand e = absurd cc
+may_go true true plays goes AnEntry e = refl
+may_go true true plays goes ACommand e = refl
+may_go true true true goes Preamble e = absurd cc
+may_go true true false true Preamble e = absurd cc
+may_go true true false false Preamble e = absurd cc
+may_go false up plays goes asked e = absurd cc
+
+abbrev can_go : Due → List Item → List ℕ → Bool
+can_go due past numbers =
+    contains due.link numbers && (is_same (needs_prepared due.asked) (is_up due.link past) && is_ready (linked due.link past))
+
+pub due_can_go : (past : List Item) (goes : Option ℕ) (entries : ℕ) (numbers : List ℕ) (due : Due)
+    → first_due goes entries (map (link_of past) numbers) ≡ Some due → can_go due past numbers ≡ true
+due_can_go past goes entries [] due e = absurd cc
+due_can_go past goes entries (link ∷ others) due e =
+    by_first (due_on goes entries (link_of past link)) refl e (due_can_go past goes entries others due)
+  where
+    here : (asked : Asked) → due_on goes entries (link_of past link) ≡ Some asked
+        → can_go (record { link = link; asked = asked; entry = played_on link past }) past (link ∷ others) ≡ true
+    here asked d =
+        let plays : Bool = nat_lt (played_on link past) entries in
+        let ready : due_by (is_ready (linked link past)) (is_up link past) plays (is_at link goes) ≡ Some asked = rw (open_is (linked link past)) at d in
+        rw (itself link) (may_go (is_ready (linked link past)) (is_up link past) plays (is_at link goes) asked ready)
+
+    behind : can_go due past others ≡ true → can_go due past (link ∷ others) ≡ true
+    behind can =
+        let parts = and_parts (contains due.link others) (is_same (needs_prepared due.asked) (is_up due.link past) && is_ready (linked due.link past)) can in
+        by_test (link == due.link) parts.0 parts.1
+      where
+        by_test : (test : Bool) → contains due.link others ≡ true
+            → (is_same (needs_prepared due.asked) (is_up due.link past) && is_ready (linked due.link past)) ≡ true
+            → ((if test then true else contains due.link others)
+            && (is_same (needs_prepared due.asked) (is_up due.link past) && is_ready (linked due.link past))) ≡ true
+        by_test true has may = may
+        by_test false has may = rw has may
+
+    by_first : (first : Option Asked) → due_on goes entries (link_of past link) ≡ first
+        → or_behind first link (played_on link past) (first_due goes entries (map (link_of past) others)) ≡ Some due
+        → (first_due goes entries (map (link_of past) others) ≡ Some due → can_go due past others ≡ true)
+        → can_go due past (link ∷ others) ≡ true
+    by_first (Some asked) d e later =
+        let same : record { link = link; asked = asked; entry = played_on link past } ≡ due = cc in
+        subst (λ (it : Due). can_go it past (link ∷ others) ≡ true) same (here asked d)
+    by_first None d e later = behind (later e)

@@ -1,0 +1,156 @@
+//! What is found in a table: a link to a server, how many there are, and the first link on which something is due; and what a link
+//! is to its session.
+ghost use Rattle.std.specs.Prelude.{◌≡◌, count_by};
+ghost use Rattle.rws_record.specs.Rules.{is_link};
+ghost use Rattle.rws_record.specs.Values.{speaks};
+ghost use Rattle.rws_routing.specs.Routings.{server_in};
+ghost use Rattle.rws_links.specs.Finding.{autocommit_behind, due_on, first_due, first_to, leads_to, owes_to};
+
+use crate::{Asked, NumberedLink};
+use rws_msgs::status::AUTOCOMMIT;
+use rws_reply::Outcome;
+use rws_route::Target;
+use rws_routing::Routing;
+
+/// What may be sent now.
+#[derive(Clone, Copy, Debug, PartialEq, Eq)]
+pub struct Due {
+    /// The link on which it may go.
+    pub link: u64,
+    /// What it is.
+    pub asked: Asked,
+    /// Which entry of the history is the next one there.
+    pub entry: usize,
+}
+
+/// How many links there are to a server.
+#[derive(Clone, Copy, Debug, PartialEq, Eq)]
+pub struct Count {
+    /// Those on which a reply is awaited.
+    pub pending: u64,
+    /// All of them.
+    pub links: u64,
+}
+
+/// The first link to a server, by its number.
+pub(crate) fn first_to(links: &[NumberedLink], server: u8) -> Option<u64>
+    ensures { result ≡ first_to server links.now }
+{
+    match links {
+        [] => None,
+        [first, others @ ..] => {
+            if first.server == server {
+                return Some(first.number);
+            }
+            first_to(others, server)
+        }
+    }
+}
+
+/// The links to a server.
+pub(crate) fn load_of(links: &[NumberedLink], server: u8) -> Count
+    ensures links { result.links ≡ count_by (leads_to server) links.now }
+    ensures pending { result.pending ≡ count_by (owes_to server) links.now }
+{
+    Count {
+        pending: links.iter().filter(|link| owes_to(link, server)).count() as u64,
+        links: links.iter().filter(|link| link.server == server).count() as u64,
+    }
+}
+
+/// A link leads to a server, and a reply is awaited on it.
+fn owes_to(link: &NumberedLink, server: u8) -> bool
+    ensures { result ≡ owes_to server link.now }
+{
+    link.server == server && link.link.is_awaiting()
+}
+
+/// The first link on which something is due, and what: `goes` is the link that a command waits for, and the session's history has
+/// so many `entries`.
+pub(crate) fn first_due(links: &[NumberedLink], goes: Option<u64>, entries: usize) -> Option<Due>
+    ensures { result ≡ first_due goes entries links.now }
+{
+    match links {
+        [] => None,
+        [first, others @ ..] => match due_on(first, goes, entries) {
+            Some(asked) => Some(Due {
+                link: first.number,
+                asked,
+                entry: first.cursor,
+            }),
+            None => first_due(others, goes, entries),
+        },
+    }
+}
+
+/// What is due on a link: the preamble as soon as it is logged in, then one entry after the other that it hasn't played, and then
+/// a command that waits for it.
+fn due_on(link: &NumberedLink, goes: Option<u64>, entries: usize) -> Option<Asked>
+    ensures { result ≡ due_on goes entries link.now }
+{
+    if !link.link.is_ready() {
+        return None;
+    }
+    if !link.is_up {
+        return Some(Asked::Preamble);
+    }
+    if link.cursor < entries {
+        return Some(Asked::Entry);
+    }
+    if goes == Some(link.number) {
+        return Some(Asked::Command);
+    }
+    None
+}
+
+/// It is this link that is kept there.
+pub fn is_link(link: u64, kept: Option<u64>) -> bool
+    ensures { result ≡ is_link link kept }
+{
+    match kept {
+        Some(other) => other == link,
+        None => false,
+    }
+}
+
+/// Whether autocommit is on behind a reply that ended so on this link: as the reply says, if it speaks of the session, which is
+/// kept there, or isn't kept and sent the command to the primary.
+pub fn autocommit_behind(
+    kept_on: Option<u64>,
+    routing: Routing,
+    link: u64,
+    outcome: Outcome,
+    before: bool,
+) -> bool
+    ensures { result ≡ autocommit_behind kept_on routing link outcome before }
+{
+    match outcome {
+        Outcome::Done { status } => {
+            if speaks(kept_on, link, routing) {
+                return status & AUTOCOMMIT != 0;
+            }
+            before
+        }
+        Outcome::Failed { code: _ } => before,
+    }
+}
+
+/// A reply on this link speaks of its session's state.
+fn speaks(kept_on: Option<u64>, link: u64, routing: Routing) -> bool
+    ensures { result ≡ speaks kept_on link routing }
+{
+    match kept_on {
+        Some(kept) => kept == link,
+        None => routing.goes_to_primary(),
+    }
+}
+
+/// The server that was found for a command; 0 where there is none.
+pub fn server_in(found: Target) -> u8
+    ensures { result ≡ server_in found }
+{
+    match found {
+        Target::Primary(server) | Target::Replica(server) => server,
+        Target::NoPrimary => 0,
+    }
+}
