@@ -22,7 +22,7 @@ use Rattle.rws_front.specs.Connection.{fault_number, heard, is_native, responded
 use Rattle.rws_front.specs.Fronting.{Fronting}
 use Rattle.rws_front.specs.Messages.{switch_of}
 use Rattle.rws_record.specs.Item.{Item}
-use Rattle.rws_record.specs.Item.Item.{Accepted, TurnsAway, Began, ClientBytes, LinkReady, LinkBytes, ClientGone, LinkLost, Routed, Comes, Connects, Takes, Floods, Puts, Starves}
+use Rattle.rws_record.specs.Item.Item.{Accepted, TurnsAway, Began, ClientBytes, LinkReady, LinkBytes, ClientGone, LinkLost, Ticks, Routed, Comes, Connects, Takes, Floods, Puts, Starves}
 use Rattle.rws_record.specs.Values.{fronted}
 
 -- where it says nothing, its bytes begin with no whole payload and no fault
@@ -94,8 +94,8 @@ step_limit accounts front = by_phase front.phase
 
 pub limit_is : (config : Config) (past : List Item) → (fronted config past).stream.limit ≡ config.command_bytes
 limit_is config [] = refl
-limit_is config (Accepted session scramble ∷ past) = refl
-limit_is config (Began link server ∷ past) = refl
+limit_is config (Accepted session scramble reading ∷ past) = refl
+limit_is config (Began link server reading ∷ past) = refl
 limit_is config (ClientBytes bytes ∷ past) = limit_is config past
 limit_is config (Connects said ∷ past) = step_limit config.accounts (fronted config past) ∙ limit_is config past
 limit_is config (Takes judged number ∷ past) = step_limit config.accounts (fronted config past) ∙ limit_is config past
@@ -104,7 +104,8 @@ limit_is config (LinkReady link ∷ past) = limit_is config past
 limit_is config (LinkBytes link bytes ∷ past) = limit_is config past
 limit_is config (ClientGone ∷ past) = limit_is config past
 limit_is config (LinkLost link ∷ past) = limit_is config past
-limit_is config (Routed link server ∷ past) = limit_is config past
+limit_is config (Ticks reading ∷ past) = limit_is config past
+limit_is config (Routed words loads next found ∷ past) = limit_is config past
 limit_is config (Comes link said ∷ past) = limit_is config past
 limit_is config (Floods bytes ∷ past) = limit_is config past
 limit_is config (Puts put ∷ past) = limit_is config past

@@ -7,6 +7,8 @@ pub mod MirrorLemmas
 pub mod TryLemmas
 -- a whole turn
 pub mod TurnLemmas
+-- the worker's answer
+pub mod AnswerLemmas
 -- and what lasts where memory was wanting
 pub mod BreakLemmas
 -- what it leaves

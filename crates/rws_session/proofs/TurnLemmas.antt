@@ -1,22 +1,19 @@
 -- A whole turn: what is heard, and the steps until the session rests.
 use Rattle.std.proofs.Common.{◌≡◌, ℕ, Bool, true, false, List, [], ◌∷◌, ◌++◌, refl, sym, ap, subst, ◌∙◌, Option, Some, None, Result, Ok, Err, IfOk}
-use Rattle.std.specs.Prelude.{◌==◌, ◌&&◌, Contains, is_some, OnOk}
+use Rattle.std.specs.Prelude.{◌==◌, ◌&&◌, Contains, OnErr}
 use Rattle.std.proofs.lemmas.Bool.{and_parts}
 use Rattle.std.specs.List.{list_any}
 use Rattle.std.proofs.Common.{map}
 use Rattle.std.proofs.lemmas.List.{append-nil, append_assoc}
-use Rattle.rws_native.specs.declared.login.Login.{Login}
 use Rattle.rws_front.specs.Fronting.{fed}
 use Rattle.rws_link.specs.Stepping.{is_new}
 use Rattle.rws_board.specs.declared.action.Action.{Action}
 use Rattle.rws_config.specs.declared.config.Config.{Config}
-use Rattle.rws_record.specs.Item.{Item}
+use Rattle.rws_record.specs.Item.{Item, Put}
 use Rattle.rws_record.specs.Item.Item.{LinkBytes}
-use Rattle.rws_record.specs.Item.Item.{Routed}
-use Rattle.rws_record.specs.Item.Put.{Opens}
 use Rattle.rws_record.specs.Values.{asking, contains, is_over, linked, links}
-use Rattle.rws_record.specs.Rules.{after_loss, due, next, next_by, owed, unless_asking}
-use Rattle.rws_record.specs.Record.IsRecord.{steps, answers, hears}
+use Rattle.rws_record.specs.Rules.{after_loss, due_arrival, due_flood, due_route, due_sends, due_take, next, owed}
+use Rattle.rws_record.specs.Record.IsRecord.{steps, hears}
 use Rattle.rws_record.specs.Record.GoesOn.{stays, then as goes_then}
 use Rattle.rws_record.specs.Outputs.{actions_of, outs_of}
 use Rattle.rws_record.proofs.RecordLemmas.{contained}
@@ -27,14 +24,12 @@ use Rattle.rws_session.specs.declared.input.SessionInput.TheVariants as inputs
 use Rattle.rws_links.specs.Links.{link_of}
 use Rattle.rws_session.specs.State.{State, erased}
 use Rattle.rws_links.specs.Table.{AreDistinct, ReadiesOn}
-use Rattle.rws_session.specs.Kept.{Asking, Is, Kept, Stands, StandsOr}
+use Rattle.rws_session.specs.Kept.{Holds, Is, Kept, Stands, StandsOr}
 use Rattle.rws_session.specs.Turning.{heard, heard_open}
-use Rattle.rws_session.specs.Steps.{Goes, Hears, Rests, Tries, ends, gives, loses, opens_link, routes, stands_at}
-use Rattle.rws_session.specs.declared.owing.Out.TheVariants as outs
-use Rattle.rws_session.specs.Turning.{Opens as LinkOpens, Settles, Turns}
+use Rattle.rws_session.specs.Steps.{Goes, Hears, Rests, Tries, due_put, ends, loses, stands_at, ticks}
+use Rattle.rws_session.specs.Turning.{Settles, Turns}
 use Rattle.rws_links.proofs.DistinctLemmas.{links_distinct}
-use Rattle.rws_record.proofs.OpeningLemmas.{asks_owing_nothing}
-use Rattle.rws_links.proofs.TableLemmas.{has_is, opened_is, without_is}
+use Rattle.rws_links.proofs.TableLemmas.{has_is, without_is}
 use Rattle.rws_session.proofs.MirrorLemmas.{farewells_are}
 
 -- Steps
@@ -70,46 +65,103 @@ goes_on config past old mid new g went =
 
 -- no more step
 pub comes_to_rest : (config : Config) (past : List Item) (old mid new : Kept) → (g : Goes config past old mid)
-    → Tries config (next config g.reached) g.reached false mid new → Rests config past old new (is_some new.state.asking)
+    → Tries config (next config g.reached) g.reached false mid new → Rests config past old new new.state.asking
 comes_to_rest config past old mid new g none =
-    subst (λ (k : Kept). Rests config past old k (is_some k.state.asking)) (sym none.1)
+    subst (λ (k : Kept). Rests config past old k k.state.asking) (sym none.1)
     (record { goes = g; stands = by_asking (asking g.reached) refl })
   where
     asks_so : mid.state.asking ≡ asking g.reached
     asks_so = ap (λ (s : State). s.asking) g.is.mirrors
 
-    by_asking : (login : Option Login) → asking g.reached ≡ login → StandsOr (is_some mid.state.asking) config mid g.reached
-    by_asking None a =
-        subst (λ (asks : Bool). StandsOr asks config mid g.reached) (sym (ap is_some (asks_so ∙ a)))
+    by_asking : (asks : Bool) → asking g.reached ≡ asks → StandsOr mid.state.asking config mid g.reached
+    by_asking false a =
+        subst (λ (asks : Bool). StandsOr asks config mid g.reached) (sym (asks_so ∙ a))
         (record { is = g.is; rests = none.0; unasking = a })
-    by_asking (Some login) a =
-        subst (λ (asks : Bool). StandsOr asks config mid g.reached) (sym (ap is_some (asks_so ∙ a)))
-        (record { is = g.is; login = login; asks = a })
+    by_asking true a =
+        subst (λ (asks : Bool). StandsOr asks config mid g.reached) (sym (asks_so ∙ a)) (record { is = g.is; asks = a })
 
 -- where the worker's answer is awaited there is no step
-pub asks_already : (config : Config) (past : List Item) (k : Kept) → Is config k past → is_some k.state.asking ≡ true
-    → next config past ≡ None
-asks_already config past k is some = by_asking (asking past) (rw is.mirrors at some)
-  where
-    by_asking : (login : Option Login) → is_some login ≡ true
-        → unless_asking login (next_by (owed past) (is_over past) (due config past)) ≡ None
-    by_asking None e = absurd cc
-    by_asking (Some login) e = refl
+pub asks_already : (config : Config) (past : List Item) (k : Kept) → Is config k past → k.state.asking ≡ true → next config past ≡ None
+asks_already config past k is e =
+    let asks : asking past ≡ true = sym (ap (λ (s : State). s.asking) is.mirrors) ∙ e in rw asks refl
 
 -- else it is what is owed or due
-pub unasking_of : (config : Config) (past : List Item) (k : Kept) → Is config k past → is_some k.state.asking ≡ false → asking past ≡ None
-unasking_of config past k is none = by_asking (asking past) refl (rw is.mirrors at none)
-  where
-    by_asking : (login : Option Login) → asking past ≡ login → is_some login ≡ false → asking past ≡ None
-    by_asking None a e = a
-    by_asking (Some login) a e = absurd cc
+pub unasking_of : (config : Config) (past : List Item) (k : Kept) → Is config k past → k.state.asking ≡ false → asking past ≡ false
+unasking_of config past k is e = sym (ap (λ (s : State). s.asking) is.mirrors) ∙ e
+
+-- No kind of step went but the last two.
+module _ (config : Config) (past : List Item) (old k1 k2 k3 k4 : Kept) (is : Is config old past) (unasked : old.state.asking ≡ false)
+    (open_still : k1.state.over ≡ false) (paid : Tries config (due_put (owed config past)) past false old k1)
+    (asked : Is config k1 past → owed config past ≡ [] → asking past ≡ false → Tries config (due_route config past) past false k1 k2)
+    (sent : Is config k2 past → owed config past ≡ [] → Tries config (due_sends config (links past) past) past false k2 k3)
+    (flooded : Is config k3 past → owed config past ≡ [] → Tries config (due_flood config past) past false k3 k4) where
+  owes_none : owed config past ≡ []
+  owes_none = by_owed (owed config past) paid.0
+    where
+      by_owed : (list : List Put) → due_put list ≡ None → list ≡ []
+      by_owed [] e = refl
+      by_owed (put ∷ others) e = absurd cc
+
+  asks_none : asking past ≡ false
+  asks_none = unasking_of config past old is unasked
+
+  is_1 : Is config k1 past
+  is_1 = subst (λ (k : Kept). Is config k past) (sym paid.1) is
+
+  asked_none : Tries config (due_route config past) past false k1 k2
+  asked_none = asked is_1 owes_none asks_none
+
+  is_2 : Is config k2 past
+  is_2 = subst (λ (k : Kept). Is config k past) (sym asked_none.1) is_1
+
+  sent_none : Tries config (due_sends config (links past) past) past false k2 k3
+  sent_none = sent is_2 owes_none
+
+  is_3 : Is config k3 past
+  is_3 = subst (λ (k : Kept). Is config k past) (sym sent_none.1) is_2
+
+  flooded_none : Tries config (due_flood config past) past false k3 k4
+  flooded_none = flooded is_3 owes_none
+
+  is_4 : Is config k4 past
+  is_4 = subst (λ (k : Kept). Is config k past) (sym flooded_none.1) is_3
+
+  same_4 : k4 ≡ old
+  same_4 = flooded_none.1 ∙ sent_none.1 ∙ asked_none.1 ∙ paid.1
+
+  over_none : is_over past ≡ false
+  over_none = sym (ap (λ (s : State). s.over) is_1.mirrors) ∙ open_still
+
+  -- and nothing came on the links: what comes next is what comes of the client
+  module _ (k5 : Kept) (read : Is config k4 past → owed config past ≡ [] → Tries config (due_arrival (links past) past) past false k4 k5) where
+    read_none : Tries config (due_arrival (links past) past) past false k4 k5
+    read_none = read is_4 owes_none
+
+    is_5 : Is config k5 past
+    is_5 = subst (λ (k : Kept). Is config k past) (sym read_none.1) is_4
+
+    next_taken : next config past ≡ due_take config past
+    next_taken = rw (asks_none, owes_none, over_none, asked_none.0, sent_none.0, flooded_none.0, read_none.0) refl
+
+    pub stepped : (new : Kept) {E : Type 0} (result : Result Bool E)
+        → (Is config k5 past → owed config past ≡ [] → IfOk result (λ went. Tries config (due_take config past) past went k5 new))
+        → IfOk result (λ went. Tries config (next config past) past went old new)
+    stepped new result took =
+        subst (λ (k : Kept). IfOk result (λ went. Tries config (next config past) past went k new)) (read_none.1 ∙ same_4)
+        (subst (λ (item : Option Item). IfOk result (λ went. Tries config item past went k5 new)) (sym next_taken) (took is_5 owes_none))
+
+    pub stepped_in_part : (new : Kept) {T E : Type 0} (result : Result T E) → OnErr result (Holds k5 new) → OnErr result (Holds old new)
+    stepped_in_part new result holds = subst (λ (k : Kept). OnErr result (Holds k new)) (read_none.1 ∙ same_4) holds
+
+  pub read_in_part : (new : Kept) → Holds k4 new → Holds old new
+  read_in_part new holds = subst (λ (k : Kept). Holds k new) same_4 holds
 
 -- What is heard
 
 pub record Hearing (config : Config) (past : List Item) (k : Kept) : Type 0 where
   pub is : Is config k past
   pub rests : next config past ≡ None
-  pub unasking : asking past ≡ None
+  pub unasking : asking past ≡ false
   pub goes_on : is_over past ≡ false
 
 pub hearing : (config : Config) (past : List Item) (k : Kept) → Stands config k past → k.state.over ≡ false → Hearing config past k
@@ -219,7 +271,7 @@ hears_ready config past link went old new stands n readies rest =
         let parts = and_parts (contains link (links past)) (is_new (linked link past)) both in
         (contained link (links past) parts.0, parts.1)
 
-    by_result : (went : Bool) → owed past ≡ [] → Hearing config past old → ReadiesOn link past (links past) went new.state.links
+    by_result : (went : Bool) → owed config past ≡ [] → Hearing config past old → ReadiesOn link past (links past) went new.state.links
         → Hears config (heard_open (inputs.Ready link) past) past went old new
     by_result true o h now =
         rw now.0 (
@@ -249,10 +301,27 @@ hears_loss config past link old new stands n some now =
       ap (λ (k : Kept). k.outs) now,
       record {
         mirrors = ap (λ (k : Kept). k.state) now ∙ ap (loses link) h.is.mirrors
-            ∙ rw (o, without_is past link (links past), append-nil (map erased (after_loss link past))) refl;
+            ∙ rw (o, without_is past link (links past), append-nil (map erased (after_loss config link past))) refl;
         legal = hears h.is.legal h.rests h.unasking h.goes_on (contained link (links past) it);
       },
     ))
+
+-- the clock shows something
+
+pub hears_clock : (config : Config) (past : List Item) (reading : ℕ) (old new : Kept) → Stands config old past → old.state.over ≡ false
+    → new ≡ record old { state = ticks config.primary_wait_ms reading old.state }
+    → Hears config (heard (inputs.Clock reading) past) past true old new
+hears_clock config past reading old new stands n now =
+    let h = hearing config past old stands n in
+    let o = rests_owing_nothing config past h.rests h.unasking in
+    hears_open config past (inputs.Clock reading) true old new h.goes_on (
+      ap (λ (k : Kept). k.number) now,
+      ap (λ (k : Kept). k.outs) now,
+      record {
+        mirrors = ap (λ (k : Kept). k.state) now ∙ ap (ticks config.primary_wait_ms reading) h.is.mirrors ∙ rw o refl;
+        legal = hears h.is.legal h.rests h.unasking h.goes_on tt;
+      },
+    )
 
 -- A session that started
 
@@ -289,36 +358,3 @@ turned config past (Some item) old mid new result told settles = by_result resul
       given = ap (λ (n : ℕ). actions_of n s.reached) (sym told.0) ∙ s.given ∙ ap (λ (n : ℕ). actions_of n (item ∷ past) ++ s.more) told.0;
       waits = s.waits ∙ ap (λ (outs : List Action). outs ++ s.more) told.1;
     }
-
--- The worker's answer
-
-pub opened : (config : Config) (past : List Item) (link server : ℕ) (login : Login) (old new : Kept) → Asking config old past
-    → old.state.asking ≡ Some login
-    → new ≡ routes link server login old → LinkOpens config link server past old new
-opened config past link server login old new asks some now =
-    let same : asking past ≡ Some login = sym (ap (λ (s : State). s.asking) asks.is.mirrors) ∙ some in
-    let owing : owed (Routed link server ∷ past) ≡ Opens link server login ∷ [] = rw same refl in
-    let none = asks_owing_nothing asks.is.legal same in
-    record {
-      login = login;
-      is = record {
-        mirrors = ap (λ (k : Kept). k.state) now
-            ∙ ap (λ (s : State). opens_link link server login (record s { asking = None })) asks.is.mirrors
-            ∙ rw (none, same, opened_is (Routed link server ∷ past) link server login (links past)) refl;
-        legal = steps (answers asks.is.legal same) (rw owing refl);
-      };
-      number = ap (λ (k : Kept). k.number) now;
-      waits = ap (λ (k : Kept). k.outs) now;
-    }
-
-pub opened_or_not : {T E : Type 0} (config : Config) (past : List Item) (link server : ℕ) (login : Login) (old mid new : Kept) (result : Result T E)
-    → Asking config old past → old.state.asking ≡ Some login → mid ≡ record old { state = record old.state { asking = None } }
-    → OnOk result (new ≡ gives (outs.Open link server login) mid) → OnOk result (LinkOpens config link server past old new)
-opened_or_not config past link server login old mid new (Err error) asks some rest given = tt
-opened_or_not config past link server login old mid new (Ok value) asks some rest given =
-    opened config past link server login old new asks some (given ∙ ap (gives (outs.Open link server login)) rest)
-
--- a session that asks was asked
-pub asks_something : {P : Type 0} (config : Config) (past : List Item) (k : Kept) → Asking config k past → k.state.asking ≡ None → P
-asks_something config past k asks none =
-    let clash : Some asks.login ≡ None = sym asks.asks ∙ sym (ap (λ (s : State). s.asking) asks.is.mirrors) ∙ none in absurd cc

@@ -1,10 +1,9 @@
 -- For which records a session stands.
-use Rattle.std.specs.Prelude.{◌≡◌, ℕ, Bool, true, false, List, [], ◌∷◌, Some, None, map}
+use Rattle.std.specs.Prelude.{◌≡◌, ℕ, Bool, true, false, List, [], ◌∷◌, None, map}
 use Rattle.rws_board.specs.declared.action.Action.{Action}
 use Rattle.rws_config.specs.declared.config.Config.{Config}
 use Rattle.rws_record.specs.Item.{Item}
 use Rattle.rws_record.specs.Rules.{next}
-use Rattle.rws_native.specs.declared.login.Login.{Login}
 use Rattle.rws_record.specs.Values.{asking, is_over, links as links_of}
 use Rattle.rws_record.specs.Record.{IsRecord, want_number}
 use Rattle.rws_links.specs.Links.{number_of}
@@ -26,13 +25,12 @@ pub record Is (config : Config) (k : Kept) (past : List Item) : Type 0 where
 pub record Stands (config : Config) (k : Kept) (past : List Item) : Type 0 where
   pub is : Is config k past
   pub rests : next config past ≡ None
-  pub unasking : asking past ≡ None
+  pub unasking : asking past ≡ false
 
 -- or it waits for the worker's answer
 pub record Asking (config : Config) (k : Kept) (past : List Item) : Type 0 where
   pub is : Is config k past
-  pub login : Login
-  pub asks : asking past ≡ Some login
+  pub asks : asking past ≡ true
 
 -- one of both, as the session says
 abbrev pub StandsOr : (asks : Bool) → Config → Kept → List Item → Type 0

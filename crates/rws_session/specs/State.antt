@@ -4,6 +4,7 @@ use Rattle.rws_wire.specs.Packets.{spelling}
 use Rattle.rws_msgs.specs.ErrLayout.{err_bytes}
 use Rattle.rws_native.specs.declared.login.Login.{Login}
 use Rattle.rws_front.specs.Fronting.{Fronting}
+use Rattle.rws_routing.specs.declared.routing.Routing.{Routing}
 use Rattle.rws_config.specs.declared.config.Config.{Config}
 use Rattle.rws_record.specs.declared.command.Command.{Command}
 use Rattle.rws_record.specs.declared.proxy_error.ProxyError.TheVariants.{OutOfMemory}
@@ -11,11 +12,12 @@ use Rattle.rws_record.specs.Item.{Item, Put}
 use Rattle.rws_record.specs.Item.Put.{Hands, Tells, Routes, Opens, LogsInto, Sends, Drops, Closes}
 use Rattle.rws_record.specs.Item.Tell.{Passes, Owns, Refuses}
 use Rattle.rws_record.specs.Record.{want_number}
-use Rattle.rws_record.specs.Values.{asking, fronted, is_over, kept_on, links, login_of, pending, reply_number, sent_on, told_from}
+use Rattle.rws_record.specs.Values.{accepted, asking, autocommit, banned, fronted, is_over, kept_on, links, login_of, now as reading, pending, reply_number, routing, sent_on, told_from}
 use Rattle.rws_record.specs.Rules.{owed}
 use Rattle.rws_record.specs.Errors.{error_of}
 use Rattle.rws_links.specs.declared.numbered.NumberedLink.{NumberedLink}
 pub use Rattle.rws_links.specs.Links.{link_of, number_of}
+use Rattle.rws_links.specs.History.{recorded}
 use Rattle.rws_session.specs.declared.owing.Out.{Out}
 use Rattle.rws_session.specs.declared.owing.Out.TheVariants as outs
 
@@ -27,14 +29,21 @@ pub record State : Type 0 where
   pub links : List NumberedLink
   -- the link that the session is kept on
   pub kept_on : Option ℕ
+  -- the session's history, and the servers that answered one of its entries by an error
+  pub accepted : List Command
+  pub banned : ℕ
   -- the command that isn't answered, the link that it was sent on, and that from which a part of its reply was told
   pub pending : Option Command
   pub sent_on : Option ℕ
   pub told_from : Option ℕ
   -- the number of the packet that the client gets next in the command's reply
   pub reply_number : ℕ
-  -- the worker was asked where the pending command is to go; a link for it is to log in so
-  pub asking : Option Login
+  -- how far the command has come on its way to a server; whether autocommit is on; and what the clock showed last
+  pub routing : Routing
+  pub autocommit : Bool
+  pub now_ms : ℕ
+  -- the worker was asked for the words of the pool, by which the pending command's target is found
+  pub asking : Bool
   -- the session is closed, or its client is gone
   pub over : Bool
   -- what is to be given out before anything else; None would be something that never waits
@@ -43,13 +52,14 @@ pub record State : Type 0 where
   pub farewell : List ℕ
   pub want_number : ℕ
 
--- what code needs to know of something that is owed: the worker is asked, and a command is sent, as soon as that is due
+-- What code needs to know of something that is owed. The worker is asked, and a command is sent, as soon as that is due, and a link
+-- is opened in the call that finds the command's target: they never wait.
 abbrev pub erased : Put → Option Out
 erased (Hands packets) = Some (outs.Hand packets)
-erased (Routes login) = None
-erased (Opens link server login) = Some (outs.Open link server login)
+erased Routes = None
+erased (Opens link server login) = None
 erased (LogsInto link packets) = Some (outs.LogIn link packets)
-erased (Tells number (Passes link command payload outcome)) = Some (outs.Pass number link payload outcome)
+erased (Tells number (Passes link command payload outcome recording)) = Some (outs.Pass number link payload outcome (recorded recording))
 erased (Tells number (Owns status)) = Some (outs.Own number status)
 erased (Tells number (Refuses error)) = Some (outs.Refuse number error)
 erased (Sends link purpose) = None
@@ -69,16 +79,21 @@ numbered number packet = packet
 abbrev pub state_of : Config → List Item → State
 state_of config past = record {
   front = fronted config past;
-  login = login_of past;
+  login = login_of config past;
   links = map (link_of past) (links past);
   kept_on = kept_on past;
+  accepted = accepted past;
+  banned = banned past;
   pending = pending past;
   sent_on = sent_on past;
   told_from = told_from past;
   reply_number = reply_number past;
+  routing = routing config past;
+  autocommit = autocommit config past;
+  now_ms = reading past;
   asking = asking past;
   over = is_over past;
-  owed = map erased (owed past);
+  owed = map erased (owed config past);
   farewell = farewell_packet;
   want_number = want_number config past;
 }

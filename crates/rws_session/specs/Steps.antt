@@ -1,9 +1,8 @@
 -- How the steps of a session change what it keeps.
-use Rattle.std.specs.Prelude.{◌≡◌, ◌&&◌, ℕ, Bool, true, false, List, [], ◌∷◌, ◌++◌, map, Option, Some, None, is_some, is_none, if◌then◌else◌}
+use Rattle.std.specs.Prelude.{◌≡◌, ◌&&◌, ℕ, nat_lt, Bool, true, false, List, [], ◌∷◌, ◌++◌, length, map, not, Option, Some, None, is_some, is_none, if◌then◌else◌}
 use Rattle.rws_wire.specs.Packets.{spelling, number_behind}
-use Rattle.rws_wire.specs.declared.close_reason.CloseReason.{CloseReason}
 use Rattle.rws_wire.specs.declared.drop_cause.DropCause.{DropCause}
-use Rattle.rws_wire.specs.declared.drop_cause.DropCause.TheVariants.{End}
+use Rattle.rws_wire.specs.declared.drop_cause.DropCause.TheVariants.{End, Kept as IsKept}
 use Rattle.rws_msgs.specs.ErrLayout.{err_bytes}
 use Rattle.rws_native.specs.declared.login.Login.{Login}
 use Rattle.rws_front.specs.declared.step.FrontStep.{FrontStep}
@@ -17,42 +16,57 @@ use Rattle.rws_link.specs.declared.step.LinkStep.{LinkStep}
 use Rattle.rws_link.specs.declared.step.LinkStep.TheVariants as steps
 use Rattle.rws_board.specs.declared.action.Action.{Action}
 use Rattle.rws_board.specs.declared.action.Action.TheVariants as actions
+use Rattle.rws_route.specs.declared.destination.Target.{Target}
+use Rattle.rws_routing.specs.Routings.{finds_late, lost, new_routing, routed, server_in, stopped, ticked}
 use Rattle.rws_config.specs.declared.config.Config.{Config}
 use Rattle.rws_record.specs.declared.command.Command.{Command}
+use Rattle.rws_record.specs.declared.proxy_error.ProxyError.{ProxyError}
+use Rattle.rws_record.specs.declared.proxy_error.ProxyError.TheVariants.{NoPrimary}
 use Rattle.rws_record.specs.Item.{Item, Judged, Put}
 use Rattle.rws_record.specs.Item.Item.{Puts}
 use Rattle.rws_record.specs.Item.Judged.{Serves}
-use Rattle.rws_record.specs.Rules.{after_command, after_connecting, after_loss_by, after_preparing, assigned_by, drop_cause, form_of, has_transaction, is_link, is_loss, is_out_on, is_replayable, Loss, loss_by, next, sends_again, unasked}
+use Rattle.rws_record.specs.Item.Put.{Opens}
+use Rattle.rws_record.specs.Rules.{after_command, after_connecting, after_loss_by, after_played, after_preparing, after_route, again_by, drop_cause, form_of, goes_if, has_transaction, is_link, is_loss, is_replayable, Loss, loss_by, next, own_status, recording_by, unasked}
 use Rattle.rws_record.specs.Record.{GoesOn}
 use Rattle.rws_record.specs.Errors.{error_of}
 use Rattle.rws_record.specs.Judging.{judged}
 use Rattle.rws_record.specs.Outputs.{actions_of, own_ok, outs_of}
-use Rattle.rws_record.specs.Values.{login_by, preamble}
+use Rattle.rws_record.specs.Values.{class_by_pending, class_of_command, goes_by, is_session, keeps, login_by, preamble, unless_link, with_pending}
+use Rattle.rws_links.specs.declared.coming.Coming.{Coming}
+use Rattle.rws_links.specs.declared.history.Recording.{Recording}
+use Rattle.rws_links.specs.declared.history.Recording.TheVariants as recordings
 use Rattle.rws_links.specs.declared.numbered.Asked.{Asked}
-use Rattle.rws_links.specs.declared.numbered.Asked.TheVariants.{Preamble, Command as ACommand}
+use Rattle.rws_links.specs.declared.numbered.Asked.TheVariants.{Preamble, Entry as AnEntry, Command as ACommand}
 use Rattle.rws_links.specs.declared.numbered.NumberedLink.{NumberedLink}
+use Rattle.rws_links.specs.Finding.{autocommit_behind, first_to}
 use Rattle.rws_links.specs.Links.{new_link}
 use Rattle.rws_session.specs.declared.owing.Out.{Out}
 use Rattle.rws_session.specs.declared.owing.Out.TheVariants as outs
 use Rattle.rws_session.specs.State.{State, erased, farewell_packet, state_of}
-use Rattle.rws_links.specs.Table.{without_number}
+use Rattle.rws_links.specs.History.{recorded}
+use Rattle.rws_links.specs.Table.{bans, led, without_number}
 use Rattle.rws_session.specs.Kept.{Is, Kept, StandsOr, lasting, lasting_of}
 
--- a session with this client's side and these links, and nothing else as yet
-abbrev pub fresh : ℕ → Fronting → List NumberedLink → (kept : Option ℕ) → Kept
-fresh number front links kept = record {
+-- a session with this client's side, this login and these links, and nothing else as yet
+abbrev pub fresh : ℕ → Fronting → Option Login → List NumberedLink → (reading : ℕ) → Kept
+fresh number front login links reading = record {
   number = number;
   outs = [];
   state = record {
     front = front;
-    login = None;
+    login = login;
     links = links;
-    kept_on = kept;
+    kept_on = None;
+    accepted = [];
+    banned = 0;
     pending = None;
     sent_on = None;
     told_from = None;
     reply_number = 0;
-    asking = None;
+    routing = new_routing;
+    autocommit = true;
+    now_ms = reading;
+    asking = false;
     over = false;
     owed = [];
     farewell = farewell_packet;
@@ -62,64 +76,91 @@ fresh number front links kept = record {
 
 -- What is given out
 
+-- this is owed before what was owed already
+abbrev pub owes : List Put → State → State
+owes puts s = record s { owed = map erased puts ++ s.owed }
+
 -- what is done outside for something that was owed
 abbrev pub action_of : ℕ → Out → Action
-action_of session (outs.Pass number link payload outcome) = actions.ToClient session (spelling number payload)
+action_of session (outs.Pass number link payload outcome recording) = actions.ToClient session (spelling number payload)
 action_of session (outs.Hand packets) = actions.ToClient session packets
-action_of session (outs.Open link server login) = actions.Open link server session
 action_of session (outs.LogIn link packets) = actions.ToLink link packets
 action_of session (outs.Own number status) = actions.ToClient session (spelling number (own_ok status))
 action_of session (outs.Refuse number error) = actions.ToClient session (spelling number (err_bytes (error_of error)))
 action_of session (outs.Drop link cause) = actions.Drop link cause
 action_of session (outs.Close reason) = actions.Close session reason
 
+-- the session's other links are given up
+abbrev pub others_dropped : (keeping : Bool) → ℕ → List NumberedLink → List (Option Out)
+others_dropped true link links = map (λ other. Some (outs.Drop other.number IsKept)) (without_number link links)
+others_dropped false link links = []
+
+-- What the end of a reply means for the history is noted: the pending command is added to it, which the link led, or the session is
+-- to be kept on the link.
+abbrev pub notes : ℕ → Recording → State → State
+notes link recordings.Nothing s = s
+notes link recordings.Accepts s =
+    record s { links = map (led link) s.links; accepted = with_pending s.accepted s.pending; pending = None }
+notes link recordings.Keeps s = record s { owed = others_dropped (is_none s.kept_on) link s.links ++ s.owed }
+
+abbrev pub kept_behind : ℕ → Recording → Option ℕ → Option ℕ
+kept_behind link recordings.Keeps kept = Some link
+kept_behind link _ kept = kept
+
+-- the reply ended
+abbrev pub ends_reply : (next link : ℕ) → Outcome → Recording → State → State
+ends_reply next link outcome recording s = record s {
+  kept_on = kept_behind link recording s.kept_on;
+  pending = None;
+  sent_on = None;
+  told_from = None;
+  reply_number = next;
+  autocommit = autocommit_behind s.kept_on s.routing link outcome s.autocommit;
+}
+
 -- a payload of the pending command's reply went to the client, from a link: the last one with the reply's outcome
-abbrev pub passed : (number link : ℕ) → List ℕ → Option Outcome → State → State
-passed number link payload (Some outcome) s =
-    record s { pending = None; sent_on = None; told_from = None; reply_number = number_behind number payload }
-passed number link payload None s = record s { told_from = Some link; reply_number = number_behind number payload }
+abbrev pub passed : (number link : ℕ) → List ℕ → Option Outcome → Recording → State → State
+passed number link payload (Some outcome) recording s =
+    ends_reply (number_behind number payload) link outcome recording (notes link recording s)
+passed number link payload None recording s = record s { told_from = Some link; reply_number = number_behind number payload }
+
+-- an error of the proxy's own went to the client: where there was no primary it is the pending command's answer
+abbrev pub refused : ProxyError → State → State
+refused NoPrimary s = record s { pending = None; routing = stopped s.routing }
+refused _ s = s
 
 -- what the loss of a link means, by what the link is to the session
 abbrev pub loss_in : ℕ → State → Loss
 loss_in link s =
-    let assigned = assigned_by s.pending s.sent_on s.kept_on in
-    loss_by (is_link link s.told_from) (is_out_on link s.sent_on assigned) sends_again (is_link link s.kept_on)
-    has_transaction is_replayable (is_link link assigned)
+    loss_by (is_link link s.told_from) (is_link link s.sent_on) (again_by s.pending s.autocommit) (is_link link s.kept_on)
+    has_transaction is_replayable (is_link link (goes_if s.pending (goes_by s.kept_on s.routing.assigned)))
 
--- it closes the session, or doesn't
-abbrev pub closes : Option CloseReason → List (Option Out)
-closes (Some reason) = Some (outs.Close reason) ∷ []
-closes None = []
+-- the pending command isn't on this link any more, and isn't to go on it
+abbrev pub leaves : ℕ → State → State
+leaves link s = record s { sent_on = unless_link link s.sent_on; routing = lost link s.routing }
+
+-- a link is taken away, and what it was for the pending command is forgotten
+abbrev pub forgets : ℕ → State → State
+forgets link s = leaves link (record s { links = without_number link s.links })
 
 -- a link is lost, and what this means is owed
 abbrev pub loses : ℕ → State → State
-loses link s = record s {
-  links = without_number link s.links;
-  owed = map erased (after_loss_by (loss_in link s)) ++ s.owed;
-}
+loses link s = record (forgets link s) { owed = map erased (after_loss_by (loss_in link s)) ++ s.owed }
 
 -- a link is given up
 abbrev pub gives_up : ℕ → DropCause → State → State
-gives_up link cause s = if is_loss cause then loses link s else record s { links = without_number link s.links }
+gives_up link cause s = if is_loss cause then loses link s else forgets link s
 
 -- the session is over, and is to give up its links
 abbrev pub ends : State → State
 ends s = record s { over = true; owed = map (λ link. Some (outs.Drop link.number End)) s.links }
 
--- a link is opened, and the session kept on it
-abbrev pub opens_link : (link server : ℕ) → Login → State → State
-opens_link link server login s = record s {
-  links = without_number link s.links ++ new_link link server login ∷ [];
-  kept_on = Some link;
-}
-
 abbrev pub after_out : Out → State → State
 after_out (outs.Hand packets) s = s
-after_out (outs.Open link server login) s = opens_link link server login s
 after_out (outs.LogIn link packets) s = s
-after_out (outs.Pass number link payload outcome) s = passed number link payload outcome s
+after_out (outs.Pass number link payload outcome recording) s = passed number link payload outcome recording s
 after_out (outs.Own number status) s = s
-after_out (outs.Refuse number error) s = s
+after_out (outs.Refuse number error) s = refused error s
 after_out (outs.Drop link cause) s = gives_up link cause s
 after_out (outs.Close reason) s = ends s
 
@@ -127,13 +168,63 @@ after_out (outs.Close reason) s = ends s
 abbrev pub gives : Out → Kept → Kept
 gives out k = record k { outs = k.outs ++ action_of k.number out ∷ []; state = after_out out k.state }
 
--- the worker is asked
-abbrev pub asks : Login → Kept → Kept
-asks login k = record k { state = record k.state { asking = Some login } }
+-- what the clock shows is heard
+abbrev pub ticks : (wait reading : ℕ) → State → State
+ticks wait reading s = record s { now_ms = reading; routing = ticked wait reading s.routing }
 
--- it answered, and a link is opened
-abbrev pub routes : (link server : ℕ) → Login → Kept → Kept
-routes link server login k = gives (outs.Open link server login) (record k { state = record k.state { asking = None } })
+-- The worker is asked, and answers
+
+-- it isn't known where the pending command goes, and it doesn't wait
+abbrev pub is_unrouted : State → Bool
+is_unrouted s = is_some s.pending && (is_none (goes_by s.kept_on s.routing.assigned) && not s.routing.waits)
+
+-- the command's target was found; `link` is the session's link to its server
+abbrev pub routes_in : Target → (link : Option ℕ) → (next : ℕ) → State → State
+routes_in found link next s = record s { asking = false; routing = routed found link next s.now_ms s.routing }
+
+abbrev pub routes : Target → (link : Option ℕ) → (next : ℕ) → Kept → Kept
+routes found link next k = record k { state = routes_in found link next k.state }
+
+-- what is to be given out for it
+abbrev pub puts_for : Config → Target → (next : ℕ) → State → List Put
+puts_for config found next s =
+    after_route found (first_to (server_in found) s.links) next s.login (finds_late config.primary_wait_ms s.now_ms s.routing) s.reply_number
+
+-- a link is opened
+abbrev pub opens_in : (link server : ℕ) → Login → State → State
+opens_in link server login s = record s { links = without_number link s.links ++ new_link link server login ∷ [] }
+
+abbrev pub opens : (link server : ℕ) → Login → Kept → Kept
+opens link server login k =
+    record k { outs = k.outs ++ actions.Open link server k.number ∷ []; state = opens_in link server login k.state }
+
+-- where the client's login is known
+abbrev pub OpensLink : (link server : ℕ) → Option Login → Kept → Kept → (opened : Bool) → Type 0
+OpensLink link server (Some login) old new true = new ≡ opens link server login old
+OpensLink link server None old new false = new ≡ old
+OpensLink link server login old new opened = ⊥
+
+-- that is what is given out
+pub record OpensFor (puts : List Put) (link : ℕ) (old new : Kept) : Type 0 where
+  pub server : ℕ
+  pub login : Login
+  pub are : puts ≡ Opens link server login ∷ []
+  pub now : new ≡ opens link server login old
+
+abbrev pub opens_none : List Put → Bool
+opens_none (Opens link server login ∷ others) = false
+opens_none _ = true
+
+-- a link was opened at once; anything else is owed
+abbrev pub TakesRoute : List Put → (next : ℕ) → Kept → Kept → (opened : Bool) → Type 0
+TakesRoute puts next old new true = OpensFor puts next old new
+TakesRoute puts next old new false = (opens_none puts ≡ true) × (new ≡ record old { state = owes puts old.state })
+
+-- Something is sent
+
+-- the link that the pending command is to go on, where it isn't sent yet
+abbrev pub unsent : State → Option ℕ
+unsent s = if (is_some s.pending && is_none s.sent_on) then goes_by s.kept_on s.routing.assigned else None
 
 -- something goes out on a link; these are the links then
 abbrev pub sends_on : ℕ → List ℕ → List NumberedLink → Kept → Kept
@@ -147,24 +238,38 @@ abbrev pub SendsPreamble : ℕ → Bool → Kept → Kept → Type 0
 SendsPreamble link true old new = new ≡ sends_on link preamble new.state.links old
 SendsPreamble link false old new = new ≡ record old { state = record old.state { links = new.state.links } }
 
+-- an entry of the history goes out, or nothing does
+abbrev pub SendsEntry : ℕ → Option Command → Bool → Kept → Kept → Type 0
+SendsEntry link (Some command) true old new = new ≡ sends_on link command.payload new.state.links old
+SendsEntry link (Some command) false old new = new ≡ record old { state = record old.state { links = new.state.links } }
+SendsEntry link None true old new = ⊥
+SendsEntry link None false old new = new ≡ old
+
+-- this command keeps the session on the link that it is sent on, and it wasn't kept before
+abbrev pub is_keeping : Command → (kept : Option ℕ) → Bool
+is_keeping command kept = keeps (class_of_command command) && is_none kept
+
 -- a command goes out on a link; these are the links then
-abbrev pub sends : ℕ → Command → List NumberedLink → Kept → Kept
-sends link command links k = record k {
-  outs = k.outs ++ actions.ToLink link (spelling 0 command.payload) ∷ [];
-  state = record k.state { links = links; sent_on = Some link };
+abbrev pub sends_in : ℕ → Command → List NumberedLink → State → State
+sends_in link command links s = record s {
+  links = links;
+  sent_on = Some link;
+  kept_on = if is_keeping command s.kept_on then Some link else s.kept_on;
+  owed = others_dropped (is_keeping command s.kept_on) link links ++ s.owed;
 }
+
+abbrev pub sends : ℕ → Command → List NumberedLink → Kept → Kept
+sends link command links k =
+    record k { outs = k.outs ++ actions.ToLink link (spelling 0 command.payload) ∷ []; state = sends_in link command links k.state }
 
 -- the pending command went out on a link, or nothing did
 abbrev pub SendsPending : ℕ → Option Command → Bool → Kept → Kept → Type 0
 SendsPending link (Some command) true old new = new ≡ sends link command new.state.links old
+SendsPending link (Some command) false old new = new ≡ record old { state = record old.state { links = new.state.links } }
 SendsPending link None true old new = ⊥
-SendsPending link pending false old new = new ≡ record old { state = record old.state { links = new.state.links } }
+SendsPending link None false old new = new ≡ old
 
 -- What is read and taken up
-
--- this is owed before what was owed already
-abbrev pub owes : List Put → State → State
-owes puts s = record s { owed = map erased puts ++ s.owed }
 
 abbrev pub pending_by : Judged → Option Command → Option Command
 pending_by (Serves command) before = Some command
@@ -174,12 +279,16 @@ pending_by _ before = before
 abbrev pub answers : Judged → ℕ → State → State
 answers judgement number s = record s {
   pending = pending_by judgement s.pending;
-  owed = map erased (after_command judgement number) ++ s.owed;
+  owed = map erased (after_command judgement number (own_status s.autocommit)) ++ s.owed;
 }
 
--- it is taken up; its reply begins with this number
+-- a new command isn't routed yet, and the client is told nothing of its reply, which begins with this number
+abbrev pub begins_reply : ℕ → State → State
+begins_reply number s = record s { sent_on = None; told_from = None; reply_number = number; routing = new_routing }
+
+-- it is taken up
 abbrev pub takes : Judged → ℕ → State → State
-takes judgement number s = answers judgement number (record s { sent_on = None; told_from = None; reply_number = number })
+takes judgement number s = answers judgement number (begins_reply number s)
 
 -- the client's side said something; this is where it stands then
 abbrev pub stands_at : Fronting → State → State
@@ -202,30 +311,39 @@ TakesSaid (fronts.Command payload) true old new =
     new ≡ record old { state = takes (judged payload.bytes payload.next) payload.next old.state }
 TakesSaid said true old new = new ≡ record old { state = connects said old.state }
 
+-- what the end of the pending command's reply means for the history, which has room for so many entries
+abbrev pub recording_in : (limit : ℕ) → State → Outcome → Recording
+recording_in limit s outcome =
+    recorded (recording_by (is_session (class_by_pending s.pending)) (is_some s.kept_on) (not (nat_lt (length s.accepted) limit)) outcome)
+
 -- what follows on a payload of the pending command's reply, which is this in the client's form
-abbrev pub owes_reply : ℕ → (form : List ℕ) → Progress → (behind : Bool) → (number : ℕ) → List (Option Out)
-owes_reply link form More behind number = Some (outs.Pass number link form None) ∷ []
-owes_reply link form (Whole outcome) behind number =
-    Some (outs.Pass number link form (Some outcome)) ∷ map erased (unasked link behind)
+abbrev pub owes_reply : ℕ → (form : List ℕ) → Progress → (behind : Bool) → (number : ℕ) → (Outcome → Recording) → List (Option Out)
+owes_reply link form More behind number recording = Some (outs.Pass number link form None recordings.Nothing) ∷ []
+owes_reply link form (Whole outcome) behind number recording =
+    Some (outs.Pass number link form (Some outcome) (recording outcome)) ∷ map erased (unasked link behind)
 
 -- what follows on a payload of a reply, by what was asked
-abbrev pub owes_part : ℕ → Option Asked → (form : List ℕ) → Progress → (behind : Bool) → (number : ℕ) → List (Option Out)
-owes_part link (Some ACommand) form progress behind number = owes_reply link form progress behind number
-owes_part link (Some Preamble) form progress behind number = map erased (after_preparing link progress behind)
-owes_part link None form progress behind number = []
+abbrev pub owes_part : ℕ → Option Asked → (form : List ℕ) → Progress → (behind : Bool) → (number : ℕ) → (Outcome → Recording) → List (Option Out)
+owes_part link (Some ACommand) form progress behind number recording = owes_reply link form progress behind number recording
+owes_part link (Some AnEntry) form progress behind number recording = map erased (after_played link progress behind)
+owes_part link (Some Preamble) form progress behind number recording = map erased (after_preparing link progress behind)
+owes_part link None form progress behind number recording = []
 
 -- what follows on what a link says
-abbrev pub owes_for : ℕ → LinkStep → Option Asked → (number : ℕ) → List (Option Out)
-owes_for link (steps.Part payload role progress next behind) asked number =
-    owes_part link asked (form_of role payload) progress behind number
-owes_for link (steps.Lost cause) asked number = Some (outs.Drop link (drop_cause cause)) ∷ []
-owes_for link (steps.Send packets) asked number = Some (outs.LogIn link packets) ∷ []
-owes_for link steps.LoggedIn asked number = []
-owes_for link steps.Idle asked number = []
+abbrev pub owes_for : ℕ → LinkStep → Option Asked → (number : ℕ) → (Outcome → Recording) → List (Option Out)
+owes_for link (steps.Part payload role progress next behind) asked number recording =
+    owes_part link asked (form_of role payload) progress behind number recording
+owes_for link (steps.Lost cause) asked number recording = Some (outs.Drop link (drop_cause cause)) ∷ []
+owes_for link (steps.Send packets) asked number recording = Some (outs.LogIn link packets) ∷ []
+owes_for link steps.LoggedIn asked number recording = []
+owes_for link steps.Idle asked number recording = []
 
--- the link that a pending command is to go on that wasn't sent yet
-abbrev pub going_on : Option Command → (sent kept : Option ℕ) → Option ℕ
-going_on pending sent kept = if (is_some pending && is_none sent) then kept else None
+-- it is taken in; the history has room for so many entries
+abbrev pub takes_coming : (limit : ℕ) → Coming → State → State
+takes_coming limit coming s = record s {
+  banned = bans coming.said coming.asked coming.server s.banned;
+  owed = owes_for coming.link coming.said coming.asked s.reply_number (recording_in limit s) ++ s.owed;
+}
 
 -- Tries
 

@@ -15,4 +15,6 @@ pub enum SessionInput {
     Link { link: u64, bytes: Text },
     /// The server closed the link.
     LinkGone { link: u64 },
+    /// The clock shows this, in milliseconds.
+    Clock { now_ms: u64 },
 }

@@ -1,6 +1,6 @@
 //! What a session owes: it is decided on, and given out in later steps of the same turn.
 
-use rws_links::LinkLogin;
+use rws_links::Recording;
 use rws_record::ProxyError;
 use rws_reply::Outcome;
 use rws_wire::{CloseReason, DropCause, Text};
@@ -12,24 +12,19 @@ pub(crate) enum Out {
     Hand {
         packets: Text,
     },
-    /// A link to this server is opened, and logs in so.
-    Open {
-        link: u64,
-        server: u8,
-        login: LinkLogin,
-    },
     /// Packets of its login go on a link as they are.
     LogIn {
         link: u64,
         packets: Text,
     },
-    /// A payload of the reply that `link` gives goes to the client, in packets from `number` on. `outcome` says how the
-    /// reply ended, at its last payload.
+    /// A payload of the reply that `link` gives goes to the client, in packets from `number` on. At its last payload `outcome`
+    /// says how the reply ended, and `recording` what that means for the session's history.
     Pass {
         number: u8,
         link: u64,
         payload: Text,
         outcome: Option<Outcome>,
+        recording: Recording,
     },
     /// The proxy's own OK goes to the client.
     Own {

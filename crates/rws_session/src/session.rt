@@ -1,11 +1,11 @@
 //! A session, and what it keeps of its record.
 //!
 //! Between any two steps its state is that of its record (`state_of` of specs/State.antt), also while outputs are owed.
-ghost use Rattle.std.specs.Prelude.{◌≡◌, ◌∷◌, List, [], Some, None, IfOk, OnOk, MatchOption, OnErr, ◌==◌, length, is_some, ◌&&◌, false};
+ghost use Rattle.std.specs.Prelude.{◌≡◌, ◌∷◌, List, [], Some, IfOk, MatchOption, OnErr, ◌==◌, length, is_some, ◌&&◌, false};
 ghost use Rattle.std.specs.List.{list_any};
-ghost use Rattle.rws_link.specs.Linking.{is_awaiting};
 ghost use Rattle.rws_session.specs.State.{numbered};
 
+mod answering;
 mod beginning;
 mod giving;
 mod hearing;
@@ -18,19 +18,21 @@ use crate::owing::Out;
 use rws_board::Action;
 use rws_config::Config;
 use rws_front::Front;
-use rws_links::{LinkLogin, LinkTable};
+use rws_links::{ClassedCommand, Count, LinkLogin, LinkTable};
 use rws_record::Command;
+use rws_routing::Routing;
 use rws_wire::Text;
 use std::alloc::{AllocError, Global};
 use std::collections::VecDeque;
 use std::marker::Model;
 use std::mem;
 
-/// One client's session, from the greeting to the end, kept on one link to a server.
+/// One client's session, from the greeting to the end.
 ///
 /// It lets the client in, answers what it can by itself, passes commands on and replies back, and gives up with a reason where it
-/// can't go on. Its link repeats the client's login at the server. What it gives out waits to be fetched by
-/// [`Session::next_out`].
+/// can't go on. A command goes where its class and the words of the pool say, on one link to each server; one that may change
+/// anything keeps the session on its link from then on. Its links repeat the client's login at their servers, and play the commands
+/// that have set something in the session. What it gives out waits to be fetched by [`Session::next_out`].
 ///
 /// Where memory is wanting in a turn the session ends: what it gave out is fetched, then its client is told by
 /// [`Session::farewell`] and the session closed, unless it is over, and the links that it has left are given up, which
@@ -48,16 +50,26 @@ pub struct Session {
     links: LinkTable,
     /// The link that the session is kept on.
     kept_on: Option<u64>,
+    /// The session's history: the commands that set something and were answered without an error, which each link plays.
+    accepted: Vec<Command>,
+    /// The servers that answered one of them by an error, and not as the one that it was first sent to.
+    banned: u8,
     /// The command that isn't answered yet, whole: it may have to be sent again.
-    pending: Option<Command>,
-    /// The link on which it was sent.
+    pending: Option<ClassedCommand>,
+    /// The link on which it was sent, while the session has it.
     sent_on: Option<u64>,
     /// The link from which the client has a part of its reply.
     told_from: Option<u64>,
     /// The number of the packet that the client gets next in its reply.
     reply_number: u8,
-    /// The worker was asked where the pending command is to go; a link for it is to log in so.
-    asking: Option<LinkLogin>,
+    /// How far it has come on its way to a server.
+    routing: Routing,
+    /// Autocommit is on, as the last reply said that speaks of it.
+    autocommit: bool,
+    /// What the clock showed last, in milliseconds.
+    now_ms: u64,
+    /// The worker was asked where the pending command is to go, and didn't answer yet.
+    asking: bool,
     /// The session is closed, or its client is gone.
     over: bool,
     /// What is to be given out before anything else is done.
@@ -81,10 +93,15 @@ impl Model for Session {
         login = s.login;
         links = s.links;
         kept_on = s.kept_on;
+        accepted = s.accepted.items;
+        banned = s.banned;
         pending = s.pending;
         sent_on = s.sent_on;
         told_from = s.told_from;
         reply_number = s.reply_number;
+        routing = s.routing;
+        autocommit = s.autocommit;
+        now_ms = s.now_ms;
         asking = s.asking;
         over = s.over;
         owed = map Some s.owed.items;
@@ -98,11 +115,12 @@ impl Session {
     ghost use Rattle.rws_config.specs.declared.config.Config.{Config};
     ghost use Rattle.rws_record.specs.Item.{Item};
     ghost use Rattle.rws_config.specs.Allowed.{IsAllowed};
-    ghost use Rattle.rws_record.specs.Values.{contains, exchange, held, is_over, links};
+    ghost use Rattle.rws_record.specs.Values.{contains, exchange, held, is_over, links, routing};
+    ghost use Rattle.rws_record.specs.Run.{links_to, pending_to};
     ghost use Rattle.rws_session.specs.Bounds.{IsBounded};
-    ghost use Rattle.rws_session.specs.Kept.{Asking, Holds, Is, Kept, Stands};
+    ghost use Rattle.rws_session.specs.Kept.{Is, Kept, Stands};
     ghost use Rattle.rws_session.specs.Kept.{numbers};
-    ghost use Rattle.rws_session.specs.Turning.{Breaks, BreaksOff, Opens, Settles, Turns, heard};
+    ghost use Rattle.rws_session.specs.Turning.{Breaks, BreaksOff, Settles, Turns, heard};
     ghost use Rattle.rws_session.specs.Steps.{Rests, Stops};
 
     /// One turn: the session hears the input, and goes on until it rests, or asks where its pending command is to go; which of
@@ -118,7 +136,7 @@ impl Session {
         ensures bounded { (past : List Item) → Stands config.now self.old past → IsAllowed config.now
             → IfOk result (λ asks. asks ≡ false → IsBounded config.now self.new) }
     {
-        if self.hear(input)? {
+        if self.hear(input, config)? {
             return self.start(config);
         }
         Ok(false)
@@ -134,31 +152,6 @@ impl Session {
             → IfOk result (λ asks. asks ≡ false → IsBounded config.now self.new) }
     {
         self.settle(config)
-    }
-
-    /// The worker's answer to a session that asked: its pending command goes on a new link of this number to this server. The
-    /// link is opened; [`Session::start`] goes on from there, and asks for nothing more.
-    pub fn open_link(&mut self, link: u64, server: u8) -> Result<(), AllocError>
-        ensures ok { (config : Config) (past : List Item) → Asking config self.old past
-            → OnOk result (Opens config link server past self.old self.new) }
-        ensures err { OnErr result (Holds self.old self.new) }
-    {
-        match self.take_asking() {
-            None => Ok(()),
-            Some(login) => self.give(Out::Open {
-                link,
-                server,
-                login,
-            }),
-        }
-    }
-
-    /// What the worker was asked, and is asked no more.
-    fn take_asking(&mut self) -> Option<LinkLogin>
-        ensures taken { result ≡ self.old.state.asking }
-        ensures rest { self.new ≡ record self.old { state = record self.old.state { asking = None } } }
-    {
-        mem::take(&mut self.asking)
     }
 
     /// Goes on until the session rests, or asks; which of both it is.
@@ -206,16 +199,10 @@ impl Session {
 
     /// The session has this link: it was opened for it, and neither lost nor given up.
     pub fn has_link(&self, link: u64) -> bool
-        ensures { (config : Config) (past : List Item) → Stands config self.now past → result ≡ contains link (links past) }
+        ensures links { (config : Config) (past : List Item) → Is config self.now past → result ≡ contains link (links past) }
+        ensures kept { result ≡ list_any (λ other. other.number == link) self.now.state.links }
     {
-        self.has(link)
-    }
-
-    /// The same, said of what is kept.
-    fn has(&self, number: u64) -> bool
-        ensures { result ≡ list_any (λ link. link.number == number) self.now.state.links }
-    {
-        self.links.has(number)
+        self.links.has(link)
     }
 
     /// The session has this link, and something was sent on it whose reply isn't whole.
@@ -223,14 +210,22 @@ impl Session {
         ensures { (config : Config) (past : List Item) → Stands config self.now past
             → result ≡ (contains link (links past) && is_some (exchange link past)) }
     {
-        self.is_owed_by(link)
+        self.links.awaits(link)
     }
 
-    /// The same, said of what is kept.
-    fn is_owed_by(&self, number: u64) -> bool
-        ensures { result ≡ list_any (λ link. link.number == number && is_awaiting link.link) self.now.state.links }
+    /// Its pending command found no primary, and waits for the clock to show something.
+    pub fn waits(&self) -> bool
+        ensures { (config : Config) (past : List Item) → Stands config self.now past → result ≡ (routing config past).waits }
     {
-        self.links.awaits(number)
+        self.routing.waits
+    }
+
+    /// What the session has open to a server.
+    pub fn load(&self, server: u8) -> Count
+        ensures links { (config : Config) (past : List Item) → Is config self.now past → result.links ≡ length (links_to server past) }
+        ensures pending { (config : Config) (past : List Item) → Is config self.now past → result.pending ≡ length (pending_to server past) }
+    {
+        self.links.load(server)
     }
 
     /// How many bytes of the client are held that aren't taken up, packet headers included. Those of a pending command are
@@ -245,13 +240,6 @@ impl Session {
     pub fn is_over(&self) -> bool
         ensures stands { (config : Config) (past : List Item) → Stands config self.now past → result ≡ is_over past }
         ensures kept { result ≡ self.now.state.over }
-    {
-        self.ended()
-    }
-
-    /// The same, said of what is kept.
-    fn ended(&self) -> bool
-        ensures { result ≡ self.now.state.over }
     {
         self.over
     }

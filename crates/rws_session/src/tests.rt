@@ -2,19 +2,48 @@
 //!
 //! A session is played through a reference: what is alive at a `?` is dropped there, and each drop of a session is a case to prove.
 
+ghost use Rattle.std.specs.Prelude.{IfOk};
+ghost use Rattle.rws_config.specs.Allowed.{IsAllowed};
+
 use super::*;
 use rws_board::Action;
 use rws_config::{COMMAND_BYTES, Config, FLOOD_ROOM, built_in};
+use rws_pool::{PoolWords, Round, Seen, State};
+use rws_select::{Load, Selector};
 use rws_wire::Text;
 use std::alloc::{AllocError, Global};
 use std::test::Fail;
 
-/// Bytes of the client (`true`) or of link 1, and what the client and the link get for them.
-type Turn = (bool, &'static [u8], &'static [u8], &'static [u8]);
+/// Where an input comes from.
+#[derive(Clone, Copy)]
+enum From {
+    Client,
+    Link(u64),
+    /// A link counts as ready.
+    Ready(u64),
+}
 
-/// What a session gave out in a turn.
+/// An input with its bytes, and what the client and the links get for it.
+type Turn = (From, &'static [u8], &'static [u8], &'static [u8]);
+
+/// What a session is told for it.
+fn input_of(alloc: Global, from: From, piece: &[u8]) -> Result<SessionInput, AllocError> {
+    match from {
+        From::Client => Ok(SessionInput::Client(Text::from_slice(alloc, piece)?)),
+        From::Link(link) => Ok(SessionInput::Link {
+            link,
+            bytes: Text::from_slice(alloc, piece)?,
+        }),
+        From::Ready(link) => Ok(SessionInput::Ready { link }),
+    }
+}
+
+/// What a session gave out in a turn, and what its worker answers by.
 #[derive(Drop)]
 struct Given {
+    words: PoolWords,
+    /// The number that the next link has.
+    next: u64,
     /// How many outputs there were.
     count: u8,
     /// The bytes for the client.
@@ -24,8 +53,12 @@ struct Given {
 }
 
 impl Given {
-    fn new(alloc: Global) -> Given {
+    fn new(alloc: Global, next: u64) -> Given {
+        let mut words = PoolWords::new(0);
+        words.observe(&SEEN);
         Given {
+            words,
+            next,
             count: 0,
             told: Vec::new(alloc),
             sent: Vec::new(alloc),
@@ -55,32 +88,71 @@ impl Given {
     }
 }
 
-/// A session starts: whether it asks for a link.
-fn start(session: &mut Session, config: &Config, given: &mut Given) -> Result<bool, AllocError> {
-    let asks = session.start(config)?;
-    given.fetch(session)?;
-    Ok(asks)
+/// Session 7 begins, with this link to server 0.
+fn begin(alloc: Global, link: u64, config: &Config) -> Result<Session, AllocError>
+    requires { IsAllowed config.now }
+{
+    Session::begin(alloc, 7, 0, link, 0, config)
 }
 
-/// Bytes come: whether the session asks for a link.
-fn hear(
+/// Server 0 is the primary, and server 1 a replica.
+const SEEN: Round = Round {
+    seen: [
+        Some(Seen {
+            state: State::Master,
+            position: 0,
+        }),
+        Some(Seen {
+            state: State::Slave,
+            position: 0,
+        }),
+        None,
+        None,
+        None,
+        None,
+        None,
+    ],
+};
+
+/// A session that asks is answered, and goes on.
+fn answer(session: &mut Session, config: &Config, given: &Given) -> Result<bool, AllocError> {
+    let selector = Selector::new(|load: &Load| u64::from(load.pending) * 65536
+        + u64::from(load.links));
+    let loads = [Load {
+        pending: 0,
+        links: 0,
+    }; 7];
+    session.answer(&given.words, &loads, given.next, config, &selector)?;
+    session.start(config)
+}
+
+/// A session that asks is answered: whether it asks again.
+fn settle(
     session: &mut Session,
-    of_client: bool,
-    bytes: Text,
+    asks: bool,
+    config: &Config,
+    given: &Given,
+) -> Result<bool, AllocError> {
+    if !asks {
+        return Ok(false);
+    }
+    answer(session, config, given)
+}
+
+/// An input is told to a session, which is answered if it asks: whether it asks again.
+fn tell(
+    session: &mut Session,
+    input: SessionInput,
     config: &Config,
     given: &mut Given,
 ) -> Result<bool, AllocError> {
-    let input = if of_client {
-        SessionInput::Client(bytes)
-    } else {
-        SessionInput::Link { link: 1, bytes }
-    };
     let asks = session.turn(input, config)?;
+    let again = settle(session, asks, config, given)?;
     given.fetch(session)?;
-    Ok(asks)
+    Ok(again)
 }
 
-/// Plays turns in which a session asks for nothing: how many went as they are to, up to the first that didn't.
+/// Plays turns: how many went as they are to, up to the first that didn't.
 fn play(
     alloc: Global,
     session: &mut Session,
@@ -89,14 +161,8 @@ fn play(
     given: &mut Given,
 ) -> Result<usize, AllocError> {
     for at in 0..turns.len() {
-        let (of_client, piece, told, sent) = turns[at];
-        let asks = hear(
-            session,
-            of_client,
-            Text::from_slice(alloc, piece)?,
-            config,
-            given,
-        )?;
+        let (from, piece, told, sent) = turns[at];
+        let asks = tell(session, input_of(alloc, from, piece)?, config, given)?;
         if asks || given.told.as_slice() != told || given.sent.as_slice() != sent {
             return Ok(at);
         }
@@ -118,47 +184,43 @@ const UNTRACKED: &[u8] = b"\x07\0\0\x01\0\x01\0\x02\0\0\0";
 
 /// Pings, queries, a reply with session state, one in parts, and a quit behind a query.
 const TURNS: [Turn; 7] = [
-    (true, b"\x01\0\0\0\x0e\x02\0\0\0\x03", PONG, b""),
-    (true, b"w", b"", b"\x02\0\0\0\x03w"),
-    (false, TRACKED, UNTRACKED, b""),
+    (From::Client, b"\x01\0\0\0\x0e\x02\0\0\0\x03", PONG, b""),
+    (From::Client, b"w", b"", b"\x02\0\0\0\x03w"),
+    (From::Link(1), TRACKED, UNTRACKED, b""),
     (
-        true,
+        From::Client,
         b"\x02\0\0\0\x03x\x01\0\0\0\x0e",
         b"",
         b"\x02\0\0\0\x03x",
     ),
-    (false, b"\x01\0\0\x01", b"", b""),
-    (false, b"\x01", b"\x01\0\0\x01\x01", b""),
-    (true, b"\x01\0\0\0\x01", b"", b""),
+    (From::Link(1), b"\x01\0\0\x01", b"", b""),
+    (From::Link(1), b"\x01", b"\x01\0\0\x01\x01", b""),
+    (From::Client, b"\x01\0\0\0\x01", b"", b""),
 ];
 
-/// The rest of the result: its four payloads, the ping's OK, the close, and the drop of the link.
+/// The rest of the result.
 fn end(
     alloc: Global,
     session: &mut Session,
     config: &Config,
     given: &mut Given,
 ) -> Result<bool, AllocError> {
-    hear(
-        session,
-        false,
-        Text::from_slice(alloc, &RESULT[5..])?,
-        config,
-        given,
-    )
+    let input = input_of(alloc, From::Link(1), &RESULT[5..])?;
+    tell(session, input, config, given)
 }
 
 #[test]
 fn session(rt: HostRuntime) -> Result<(), Fail> {
     let config = built_in(rt.alloc())?;
-    let mut session = Session::begin(rt.alloc(), 7, 0, 1, &config)?;
-    let mut given = Given::new(rt.alloc());
+    let mut session = begin(rt.alloc(), 1, &config)?;
+    let mut given = Given::new(rt.alloc(), 1);
     let went = play(rt.alloc(), &mut session, &TURNS, &config, &mut given);
     assert_eq!(rt; went.ok(), Some(TURNS.len()));
-    // No turn opens a link, so it was there all the time.
+    // No turn opens a link, so the first was there all the time.
     assert!(rt; session.has_link(1) && session.awaits(1) && !session.awaits(2));
     let asks = end(rt.alloc(), &mut session, &config, &mut given);
     assert_eq!(rt; asks.ok(), Some(false));
+    // the result's last four payloads, the ping's OK, the close, and the drop of the link
     assert_eq!(rt; given.count, 7);
     assert!(rt; session.is_over() && !session.has_link(1));
     Ok(())
@@ -169,12 +231,14 @@ const COMMAND: &[u8] = b"\x02\0\0\0\x03x";
 
 const TOO_LARGE: &[u8] = b"\x1a\0\0\x01\xff\x81\x04#08S01command too large";
 
-const ASKED: [Turn; 1] = [(true, COMMAND, b"", COMMAND)];
+const ASKED: [Turn; 1] = [(From::Client, COMMAND, b"", COMMAND)];
 
-const FLOODED: [Turn; 1] = [(true, b"\0", TOO_LARGE, b"")];
+const FLOODED: [Turn; 1] = [(From::Client, b"\0", TOO_LARGE, b"")];
 
 /// The settings by which a client may send the least ahead.
-fn narrow(alloc: Global) -> Result<Config, AllocError> {
+fn narrow(alloc: Global) -> Result<Config, AllocError>
+    ensures { IfOk result IsAllowed }
+{
     let mut config = built_in(alloc)?;
     config.command_bytes = COMMAND_BYTES.least;
     Ok(config)
@@ -189,14 +253,19 @@ fn fill(
     given: &mut Given,
 ) -> Result<bool, AllocError> {
     let behind = vec![in alloc; 0; most]?;
-    hear(session, true, Text::new(behind), config, given)
+    tell(
+        session,
+        SessionInput::Client(Text::new(behind)),
+        config,
+        given,
+    )
 }
 
 #[test]
 fn floods(rt: HostRuntime) -> Result<(), Fail> {
     let config = narrow(rt.alloc())?;
-    let mut session = Session::begin(rt.alloc(), 7, 0, 1, &config)?;
-    let mut given = Given::new(rt.alloc());
+    let mut session = begin(rt.alloc(), 1, &config)?;
+    let mut given = Given::new(rt.alloc(), 1);
     let most = COMMAND_BYTES.least + FLOOD_ROOM;
     let went = play(rt.alloc(), &mut session, &ASKED, &config, &mut given);
     assert_eq!(rt; went.ok(), Some(1));
@@ -214,7 +283,7 @@ fn floods(rt: HostRuntime) -> Result<(), Fail> {
 #[test]
 fn a_farewell_is_reserved(rt: HostRuntime) -> Result<(), Fail> {
     let config = built_in(rt.alloc())?;
-    let mut session = Session::begin(rt.alloc(), 7, 0, 3, &config)?;
+    let mut session = begin(rt.alloc(), 3, &config)?;
     let told = session.farewell();
     assert_eq!(rt;
         told.as_slice(),
@@ -225,78 +294,28 @@ fn a_farewell_is_reserved(rt: HostRuntime) -> Result<(), Fail> {
     Ok(())
 }
 
-/// A response of `app` with the native plugin and an empty answer, and what the client gets for it.
-const RESPONSE: &[u8] =
-    b"\x3b\0\0\x01\x01\xa2\x08\0\0\0\0\x01\x2d\0\0\0\0\0\0\0\0\0\0\0\0\0\0\0\0\0\0\0\0\0\0\0app\0\0mysql_native_password\0";
+/// A read.
+const READ: &[u8] = b"\x09\0\0\0\x03SELECT 1";
 
-const WELCOME: &[u8] = b"\x07\0\0\x02\0\0\0\x02\0\0\0";
+/// COM_INIT_DB for `d`.
+const INIT_DB: &[u8] = b"\x02\0\0\0\x02d";
 
-/// The greeting of a server, and what it gets for it: the same login.
-const GREETING: &[u8] =
-    b"\x4f\0\0\0\x0a10.6.0-fake\0\x01\0\0\0AAAAAAAA\0\x0f\xa2\x2d\x02\0\xae\0\x15\0\0\0\0\0\0\0\0\0\0AAAAAAAAAAAA\0mysql_native_password\0";
-
-const REPEATED: &[u8] =
-    b"\x3b\0\0\x01\x01\xa2\xae\0\0\0\0\x01\x2d\0\0\0\0\0\0\0\0\0\0\0\0\0\0\0\0\0\0\0\0\0\0\0app\0\0mysql_native_password\0";
-
-const PREAMBLE: &[u8] =
-    b"\x64\0\0\0\x03SET SESSION session_track_system_variables = CONCAT(@@session_track_system_variables, ',last_gtid')";
-
-const LOGIN: [Turn; 1] = [(true, RESPONSE, WELCOME, b"")];
-
-/// The server's side of the link's login, of its preamble, and of the command.
-const ANSWERS: [Turn; 4] = [
-    (false, GREETING, b"", REPEATED),
-    (false, WELCOME, b"", PREAMBLE),
-    (false, PONG, b"", COMMAND),
-    (false, PONG, PONG, b""),
+/// A command sets the session at the primary, and the link to the replica plays it before a read goes there.
+const PLAYED: [Turn; 6] = [
+    (From::Client, INIT_DB, b"", INIT_DB),
+    (From::Link(1), PONG, PONG, b""),
+    (From::Client, READ, b"", b""),
+    (From::Ready(2), b"", b"", INIT_DB),
+    (From::Link(2), PONG, b"", READ),
+    (From::Link(2), PONG, PONG, b""),
 ];
 
-/// A command comes: whether a session asks for a link, and whether it does once it has one.
-fn ask(
-    alloc: Global,
-    session: &mut Session,
-    config: &Config,
-    given: &mut Given,
-) -> Result<(bool, bool), AllocError> {
-    let asks = hear(
-        session,
-        true,
-        Text::from_slice(alloc, COMMAND)?,
-        config,
-        given,
-    )?;
-    session.open_link(1, 0)?;
-    Ok((asks, start(session, config, given)?))
-}
-
 #[test]
-fn a_client_logs_in_and_its_link_does(rt: HostRuntime) -> Result<(), Fail> {
+fn a_session_is_played_on_another_link(rt: HostRuntime) -> Result<(), Fail> {
     let config = built_in(rt.alloc())?;
-    let mut session = Session::accept(rt.alloc(), 2, *b"ABCDEFGHIJKLMNOPQRST", &config)?;
-    let mut given = Given::new(rt.alloc());
-    assert_eq!(rt; start(&mut session, &config, &mut given).ok(), Some(false));
-    assert!(rt; given.count == 1 && given.told.len() == 86);
-    let went = play(rt.alloc(), &mut session, &LOGIN, &config, &mut given);
-    assert_eq!(rt; went.ok(), Some(1));
-    // It has no link, and asks for one.
-    let asks = ask(rt.alloc(), &mut session, &config, &mut given);
-    assert_eq!(rt; asks.ok(), Some((true, false)));
-    let went = play(rt.alloc(), &mut session, &ANSWERS, &config, &mut given);
-    assert_eq!(rt; went.ok(), Some(ANSWERS.len()));
-    Ok(())
-}
-
-#[test]
-fn a_session_too_many_is_turned_away(rt: HostRuntime) -> Result<(), Fail> {
-    let config = built_in(rt.alloc())?;
-    let mut session = Session::turn_away(rt.alloc(), 2, true, &config)?;
-    let mut given = Given::new(rt.alloc());
-    assert_eq!(rt; start(&mut session, &config, &mut given).ok(), Some(false));
-    assert_eq!(rt; given.count, 2);
-    assert_eq!(rt;
-        given.told.as_slice(),
-        b"\x1d\0\0\0\xff\x10\x04#08004too many connections".as_slice()
-    );
-    assert!(rt; session.is_over());
+    let mut session = begin(rt.alloc(), 1, &config)?;
+    let mut given = Given::new(rt.alloc(), 2);
+    let went = play(rt.alloc(), &mut session, &PLAYED, &config, &mut given);
+    assert_eq!(rt; went.ok(), Some(PLAYED.len()));
     Ok(())
 }

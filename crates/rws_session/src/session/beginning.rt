@@ -1,18 +1,19 @@
 //! How a session begins.
 ghost use Rattle.std.specs.Prelude.{◌≡◌, IfOk, OnOk};
+ghost use Rattle.rws_config.specs.Allowed.{IsAllowed};
 ghost use Rattle.rws_record.specs.Item.Item.{Accepted, Began, TurnsAway};
 ghost use Rattle.rws_record.specs.Rules.{after_turning_away};
 ghost use Rattle.rws_record.specs.Values.{begun_front};
-ghost use Rattle.rws_session.specs.State.{farewell_packet};
 ghost use Rattle.rws_session.specs.Steps.{fresh, owes};
 
 use crate::owing::Out;
 use crate::session::Session;
 use rws_config::Config;
 use rws_front::Front;
-use rws_links::LinkTable;
+use rws_links::{LinkLogin, LinkTable, reserve_farewell};
 use rws_record::ProxyError;
-use rws_wire::{CloseReason, frame};
+use rws_routing::Routing;
+use rws_wire::CloseReason;
 use std::alloc::{AllocError, Global};
 use std::collections::VecDeque;
 
@@ -27,27 +28,33 @@ impl Session {
         alloc: Global,
         number: u32,
         scramble: [u8; 20],
+        now_ms: u64,
         config: &Config,
     ) -> Result<Session, AllocError>
-        ensures { IfOk result (λ s. Starts config.now (Accepted number scramble) number s) }
+        ensures { IfOk result (λ s. Starts config.now (Accepted number scramble now_ms) number s) }
     {
         let front = Front::new(alloc, number, scramble, config);
-        Session::with_front(alloc, number, front, LinkTable::new(alloc), None)
+        let links = LinkTable::new(alloc);
+        Session::with_front(alloc, number, front, None, links, now_ms)
     }
 
-    /// A session in the command phase, kept on a ready link to a server of the settings.
+    /// A session in the command phase, with a ready link to a server of the settings. Further links repeat the login of the
+    /// settings' first account.
     pub fn begin(
         alloc: Global,
         number: u32,
         server: u8,
         link: u64,
+        now_ms: u64,
         config: &Config,
     ) -> Result<Session, AllocError>
-        ensures { IfOk result (λ s. Starts config.now (Began link server) number s) }
+        requires allowed { IsAllowed config.now }
+        ensures { IfOk result (λ s. Starts config.now (Began link server now_ms) number s) }
     {
         let links = LinkTable::begin(alloc, link, server)?;
+        let login = LinkLogin::first(config)?;
         let front = in_commands(alloc, config);
-        Session::with_front(alloc, number, front, links, Some(link))
+        Session::with_front(alloc, number, front, login, links, now_ms)
     }
 
     /// A session that is none: there are as many as may be, and it is closed at once. A client that connected is told so.
@@ -60,7 +67,8 @@ impl Session {
         ensures { IfOk result (λ s. Starts config.now (TurnsAway told) number s) }
     {
         let front = in_commands(alloc, config);
-        let mut session = Session::with_front(alloc, number, front, LinkTable::new(alloc), None)?;
+        let links = LinkTable::new(alloc);
+        let mut session = Session::with_front(alloc, number, front, None, links, 0)?;
         session.owe_turning_away(told)?;
         Ok(session)
     }
@@ -81,15 +89,16 @@ impl Session {
         Ok(())
     }
 
-    /// A session with this client's side and these links, and nothing else as yet.
+    /// A session with this client's side, this login and these links, and nothing else as yet.
     fn with_front(
         alloc: Global,
         number: u32,
         front: Front,
+        login: Option<LinkLogin>,
         links: LinkTable,
-        kept_on: Option<u64>,
+        now_ms: u64,
     ) -> Result<Session, AllocError>
-        ensures { IfOk result (λ s. s ≡ fresh number front links kept_on) }
+        ensures { IfOk result (λ s. s ≡ fresh number front login links now_ms) }
     {
         let want_number = front.error_number(&[]);
         Ok(Session {
@@ -97,14 +106,19 @@ impl Session {
             number,
             outs: VecDeque::new(alloc),
             front,
-            login: None,
+            login,
             links,
-            kept_on,
+            kept_on: None,
+            accepted: Vec::new(alloc),
+            banned: 0,
             pending: None,
             sent_on: None,
             told_from: None,
             reply_number: 0,
-            asking: None,
+            routing: Routing::new(),
+            autocommit: true,
+            now_ms,
+            asking: false,
             over: false,
             owed: VecDeque::new(alloc),
             farewell: reserve_farewell(alloc)?,
@@ -120,13 +134,4 @@ fn in_commands(alloc: Global, config: &Config) -> Front
     let mut front = Front::new(alloc, 0, [0; 20], config);
     front.ready();
     front
-}
-
-/// The packet that tells the client that memory was wanting, with the number 1.
-fn reserve_farewell(alloc: Global) -> Result<Vec<u8>, AllocError>
-    ensures { IfOk result (λ packet. packet.items ≡ farewell_packet) }
-{
-    let mut packet = Vec::new(alloc);
-    frame(ProxyError::OutOfMemory.payload(), 1, &mut packet)?;
-    Ok(packet)
 }

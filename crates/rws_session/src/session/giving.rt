@@ -1,20 +1,21 @@
 //! What a session gives out: all of it goes through here, and only here does giving it out change what is kept.
-ghost use Rattle.std.specs.Prelude.{◌≡◌, ◌∷◌, ◌++◌, ℕ, List, [], true, map, Some, IfOk, OnErr, OnOk};
+ghost use Rattle.std.specs.Prelude.{◌≡◌, ◌∷◌, ◌++◌, ℕ, List, [], true, map, Some, None, IfOk, OnErr, OnOk};
 ghost use Rattle.rws_wire.specs.Packets.{spelling, number_behind};
 ghost use Rattle.rws_wire.specs.declared.drop_cause.DropCause.TheVariants as causes;
 ghost use Rattle.rws_board.specs.declared.action.Action.TheVariants as actions;
-ghost use Rattle.rws_record.specs.Rules.{after_loss_by, assigned_by, has_transaction, is_loss, is_replayable, loss_by, sends_again};
-ghost use Rattle.rws_record.specs.Outputs.{own_ok};
+ghost use Rattle.rws_record.specs.Rules.{after_loss_by, again_by};
 ghost use Rattle.rws_session.specs.declared.owing.Out.TheVariants as outs;
 ghost use Rattle.rws_session.specs.State.{erased};
-ghost use Rattle.rws_links.specs.Table.{without_number};
+ghost use Rattle.rws_links.specs.declared.history.Recording.TheVariants as recordings;
+ghost use Rattle.rws_links.specs.Losses.{closing};
 ghost use Rattle.rws_session.specs.Kept.{Holds};
-ghost use Rattle.rws_session.specs.Steps.{after_out, closes, ends, gives, gives_up, loses, loss_in, passed};
+ghost use Rattle.rws_session.specs.Steps.{ends_reply, gives, leaves, loss_in, notes, refused};
 
 use crate::owing::Out;
 use crate::session::Session;
 use rws_board::Action;
-use rws_links::{LinkLogin, NumberedLink};
+use rws_links::{NumberedLink, Recording, autocommit_behind, closing, is_link, is_loss, own_ok};
+use rws_record::ProxyError;
 use rws_reply::Outcome;
 use rws_wire::{CloseReason, DropCause, Text, frame};
 use std::alloc::AllocError;
@@ -28,20 +29,16 @@ impl Session {
     {
         match out {
             Out::Hand { packets } => self.hand(packets),
-            Out::Open {
-                link,
-                server,
-                login,
-            } => self.open(link, server, &login),
             Out::LogIn { link, packets } => self.log_in(link, packets),
             Out::Pass {
                 number,
                 link,
                 payload,
                 outcome,
-            } => self.pass(number, link, payload.as_slice(), outcome),
-            Out::Own { number, status } => self.answer(number, &own_ok(status)),
-            Out::Refuse { number, error } => self.answer(number, error.payload()),
+                recording,
+            } => self.pass(number, link, payload.as_slice(), outcome, recording),
+            Out::Own { number, status } => self.tell_own(number, &own_ok(status)),
+            Out::Refuse { number, error } => self.refuse(number, error),
             Out::Drop { link, cause } => self.drop_link(link, cause),
             Out::Close { reason } => self.close(reason),
         }
@@ -56,24 +53,6 @@ impl Session {
             session: self.number,
             bytes: packets,
         })?;
-        Ok(())
-    }
-
-    /// Opens a link, which logs in so; the session is kept on it.
-    fn open(&mut self, link: u64, server: u8, login: &LinkLogin) -> Result<(), AllocError>
-        ensures ok { OnOk result (self.new ≡ gives (outs.Open link server login.now) self.old) }
-        ensures err { OnErr result (Holds self.old self.new) }
-    {
-        self.outs.push_back(Action::Open {
-            link,
-            server,
-            session: self.number,
-        })?;
-        if self.links.open(self.alloc, link, server, login).is_err() {
-            self.outs.pop_back();
-            return Err(AllocError);
-        }
-        self.kept_on = Some(link);
         Ok(())
     }
 
@@ -105,12 +84,32 @@ impl Session {
     }
 
     /// Answers a command by a payload of the proxy's own.
-    fn answer(&mut self, number: u8, payload: &[u8]) -> Result<(), AllocError>
+    fn tell_own(&mut self, number: u8, payload: &[u8]) -> Result<(), AllocError>
         ensures ok { OnOk result (self.new ≡ record self.old { outs = self.old.outs ++ actions.ToClient self.old.number (spelling number payload.now) ∷ [] }) }
         ensures err { OnErr result (Holds self.old self.new) }
     {
         self.tell(number, payload)?;
         Ok(())
+    }
+
+    /// Tells the client an error of the proxy's own. Where there was no primary the pending command is answered so.
+    fn refuse(&mut self, number: u8, error: ProxyError) -> Result<(), AllocError>
+        ensures ok { OnOk result (self.new ≡ gives (outs.Refuse number error) self.old) }
+        ensures err { OnErr result (Holds self.old self.new) }
+    {
+        self.tell_own(number, error.payload())?;
+        self.end_by(error);
+        Ok(())
+    }
+
+    /// The client has an error of the proxy's own.
+    fn end_by(&mut self, error: ProxyError)
+        ensures { self.new ≡ record self.old { state = refused error self.old.state } }
+    {
+        if error == ProxyError::NoPrimary {
+            self.pending = None;
+            self.routing = self.routing.stopped();
+        }
     }
 
     /// Passes a payload of the reply to the pending command on; the last one comes with an outcome.
@@ -120,28 +119,89 @@ impl Session {
         link: u64,
         payload: &[u8],
         outcome: Option<Outcome>,
+        recording: Recording,
     ) -> Result<(), AllocError>
-        ensures ok { OnOk result (self.new ≡ gives (outs.Pass number link payload.now outcome) self.old) }
+        ensures ok { OnOk result (self.new ≡ gives (outs.Pass number link payload.now outcome recording) self.old) }
         ensures err { OnErr result (Holds self.old self.new) }
     {
-        let next = self.tell(number, payload)?;
-        self.go_on_behind(next, link, outcome);
+        match outcome {
+            None => self.pass_part(number, link, payload),
+            Some(outcome) => self.pass_last(number, link, payload, outcome, recording),
+        }
+    }
+
+    /// Passes a payload on that isn't the last one.
+    fn pass_part(&mut self, number: u8, link: u64, payload: &[u8]) -> Result<(), AllocError>
+        ensures ok { OnOk result (self.new ≡ gives (outs.Pass number link payload.now None recordings.Nothing) self.old) }
+        ensures err { OnErr result (Holds self.old self.new) }
+    {
+        self.reply_number = self.tell(number, payload)?;
+        self.told_from = Some(link);
         Ok(())
     }
 
-    /// The client has a payload of the reply.
-    fn go_on_behind(&mut self, next: u8, link: u64, outcome: Option<Outcome>)
-        ensures { (number : ℕ) (payload : List ℕ) → next ≡ number_behind number payload
-            → self.new ≡ record self.old { state = passed number link payload outcome self.old.state } }
+    /// Passes the last payload on.
+    fn pass_last(
+        &mut self,
+        number: u8,
+        link: u64,
+        payload: &[u8],
+        outcome: Outcome,
+        recording: Recording,
+    ) -> Result<(), AllocError>
+        ensures ok { OnOk result (self.new ≡ gives (outs.Pass number link payload.now (Some outcome) recording) self.old) }
+        ensures err { OnErr result (Holds self.old self.new) }
     {
-        self.reply_number = next;
-        match outcome {
-            None => self.told_from = Some(link),
-            Some(_) => {
-                self.pending = None;
-                self.sent_on = None;
-                self.told_from = None;
+        self.note(link, recording)?;
+        let next = self.tell(number, payload)?;
+        self.end_reply(next, link, outcome, recording);
+        Ok(())
+    }
+
+    /// Notes what the end of a reply on this link means for the history, as far as that takes memory.
+    fn note(&mut self, link: u64, recording: Recording) -> Result<(), AllocError>
+        ensures ok { OnOk result (self.new ≡ record self.old { state = notes link recording self.old.state }) }
+        ensures holds { Holds self.old self.new }
+    {
+        match recording {
+            Recording::Nothing => Ok(()),
+            Recording::Accepts => self.accept_pending(link),
+            Recording::Keeps => {
+                let keeping = self.kept_on.is_none();
+                self.owe_keeping(keeping, link)
             }
+        }
+    }
+
+    /// The pending command, which this link led, is added to the history.
+    fn accept_pending(&mut self, link: u64) -> Result<(), AllocError>
+        ensures ok { OnOk result (self.new ≡ record self.old { state = notes link recordings.Accepts self.old.state }) }
+        ensures holds { Holds self.old self.new }
+    {
+        self.links.lead(link)?;
+        if let Some(command) = self.pending.take() {
+            self.accepted.push(command.into_command())?;
+        }
+        Ok(())
+    }
+
+    /// The client has the last payload of the reply.
+    fn end_reply(&mut self, next: u8, link: u64, outcome: Outcome, recording: Recording)
+        ensures { self.new ≡ record self.old { state = ends_reply next link outcome recording self.old.state } }
+    {
+        self.autocommit = autocommit_behind(
+            self.kept_on,
+            self.routing,
+            link,
+            outcome,
+            self.autocommit,
+        );
+        self.reply_number = next;
+        self.pending = None;
+        self.sent_on = None;
+        self.told_from = None;
+        if recording == Recording::Keeps {
+            self.kept_on = Some(link);
         }
     }
 
@@ -155,7 +215,18 @@ impl Session {
         }
         self.outs.push_back(Action::Drop { link, cause })?;
         self.links.remove(link);
+        self.leave_link(link);
         Ok(())
+    }
+
+    /// The pending command isn't on this link any more, and isn't to go on it.
+    pub(super) fn leave_link(&mut self, link: u64)
+        ensures { self.new ≡ record self.old { state = leaves link self.old.state } }
+    {
+        if is_link(link, self.sent_on) {
+            self.sent_on = None;
+        }
+        self.routing = self.routing.lost(link);
     }
 
     /// A link is lost: what this means for the session is owed.
@@ -167,27 +238,32 @@ impl Session {
         }) }
         ensures err { OnErr result (Holds self.old self.new) }
     {
-        match closing(
-            self.told_from == Some(link),
-            self.assigned() == Some(link),
-            self.kept_on == Some(link),
-        ) {
+        match self.loss(link) {
             Some(reason) => self.owe(Out::Close { reason }),
             None => Ok(()),
         }
     }
 
-    /// The link on which the pending command was sent, or is to be sent.
-    fn assigned(&self) -> Option<u64>
-        ensures { result ≡ assigned_by self.now.state.pending self.now.state.sent_on self.now.state.kept_on }
+    /// Why the loss of a link closes the session, if it does.
+    fn loss(&self, link: u64) -> Option<CloseReason>
+        ensures { after_loss_by (loss_in link self.now.state) ≡ closing result }
     {
-        if self.pending.is_none() {
-            return None;
+        closing(
+            is_link(link, self.told_from),
+            is_link(link, self.sent_on),
+            self.sends_again(),
+            is_link(link, self.kept_on),
+        )
+    }
+
+    /// The pending command may be sent again where its link is lost.
+    fn sends_again(&self) -> bool
+        ensures { result ≡ again_by self.now.state.pending self.now.state.autocommit }
+    {
+        match &self.pending {
+            Some(command) => command.sends_again(self.autocommit),
+            None => true,
         }
-        if self.sent_on.is_none() {
-            return self.kept_on;
-        }
-        self.sent_on
     }
 
     /// Owes something before what is owed already.
@@ -224,13 +300,6 @@ impl Session {
     {
         farewells(self.links.as_slice(), &mut self.owed)
     }
-
-    /// The session is over.
-    pub(super) fn finish(&mut self)
-        ensures { self.new ≡ record self.old { state = record self.old.state { over = true } } }
-    {
-        self.over = true;
-    }
 }
 
 /// Each link is to be given up, and nothing else is owed.
@@ -245,37 +314,4 @@ fn farewells(links: &[NumberedLink], owed: &mut VecDeque<Out>) -> Result<(), All
         })?;
     }
     Ok(())
-}
-
-/// To give a link up is to lose it, but for those that aren't needed any more.
-fn is_loss(cause: DropCause) -> bool
-    ensures { result ≡ is_loss cause }
-{
-    !matches!(cause, DropCause::End | DropCause::Kept | DropCause::Replay)
-}
-
-/// Why the loss of a link closes the session, by what the link is to it: the client has a part of the pending reply from
-/// it, the pending command was sent on it or waits for it, the session is kept on it.
-fn closing(told: bool, sent: bool, kept: bool) -> Option<CloseReason>
-    ensures { map erased (after_loss_by (loss_by told sent sends_again kept has_transaction is_replayable sent)) ≡ closes result }
-{
-    if told {
-        return Some(CloseReason::ResultCut);
-    }
-    if sent {
-        return Some(CloseReason::OutcomeUnknown);
-    }
-    if kept {
-        return Some(CloseReason::SessionState);
-    }
-    None
-}
-
-/// OK_Packet: nothing affected, no insert id, this status, no warnings.
-#[tactic(auto, unfolding(rws_msgs::specs::OkLayout::ok_bytes, rws_msgs::specs::OkLayout::texts_bytes, rws_wire::specs::Lenenc::lenenc_bytes))]
-fn own_ok(status: u16) -> [u8; 7]
-    ensures { result ≡ own_ok status }
-{
-    let [low, high] = status.to_le_bytes();
-    [0x00, 0, 0, low, high, 0, 0]
 }

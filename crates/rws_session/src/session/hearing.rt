@@ -1,6 +1,5 @@
 //! What comes to a session from outside changes what it keeps here, and nowhere else.
-ghost use Rattle.std.specs.Prelude.{◌≡◌, ◌++◌, ◌∷◌, ℕ, List, true, map, IfOk, OnErr, OnOk};
-ghost use Rattle.rws_config.specs.declared.config.Config.{Config};
+ghost use Rattle.std.specs.Prelude.{◌≡◌, ◌∷◌, ℕ, List, true, map, IfOk, OnErr, OnOk};
 ghost use Rattle.rws_record.specs.Item.{Item};
 ghost use Rattle.rws_record.specs.Item.Item.{LinkBytes};
 ghost use Rattle.rws_front.specs.Connection.{error_number};
@@ -9,22 +8,23 @@ ghost use Rattle.rws_links.specs.Links.{link_of};
 ghost use Rattle.rws_links.specs.Table.{AreDistinct, ReadiesOn, without_number};
 ghost use Rattle.rws_session.specs.Kept.{Holds, Stands};
 ghost use Rattle.rws_session.specs.Turning.{heard};
-ghost use Rattle.rws_session.specs.Steps.{Hears, HearsInPart, ends, loses, stands_at};
+ghost use Rattle.rws_session.specs.Steps.{Hears, HearsInPart, ends, loses, stands_at, ticks};
 
 use crate::SessionInput;
 use crate::session::Session;
+use rws_config::Config;
 use std::alloc::AllocError;
 
 impl Session {
     /// Takes an input in, and says whether it was heard: a session that is over hears nothing, and a link that it doesn't
     /// have is none of its business.
-    pub(super) fn hear(&mut self, input: SessionInput) -> Result<bool, AllocError>
-        ensures ok { (config : Config) (past : List Item) → Stands config self.old past
-            → IfOk result (λ went. Hears config (heard input past) past went self.old self.new) }
-        ensures err { (config : Config) (past : List Item) → Stands config self.old past
-            → OnErr result (HearsInPart config (heard input past) past self.old self.new) }
+    pub(super) fn hear(&mut self, input: SessionInput, config: &Config) -> Result<bool, AllocError>
+        ensures ok { (past : List Item) → Stands config.now self.old past
+            → IfOk result (λ went. Hears config.now (heard input past) past went self.old self.new) }
+        ensures err { (past : List Item) → Stands config.now self.old past
+            → OnErr result (HearsInPart config.now (heard input past) past self.old self.new) }
     {
-        if self.ended() {
+        if self.is_over() {
             return Ok(false);
         }
         match input {
@@ -38,17 +38,21 @@ impl Session {
             }
             SessionInput::Ready { link } => Ok(self.ready_link(link)),
             SessionInput::Link { link, bytes } => {
-                if !self.has(link) {
+                if !self.has_link(link) {
                     return Ok(false);
                 }
                 self.feed_link(link, bytes.as_slice())?;
                 Ok(true)
             }
             SessionInput::LinkGone { link } => {
-                if !self.has(link) {
+                if !self.has_link(link) {
                     return Ok(false);
                 }
                 self.lose_link(link)?;
+                Ok(true)
+            }
+            SessionInput::Clock { now_ms } => {
+                self.tick(config.primary_wait_ms, now_ms);
                 Ok(true)
             }
         }
@@ -89,7 +93,7 @@ impl Session {
         ensures ok { OnOk result (self.new ≡ record self.old { state = ends self.old.state }) }
         ensures err { OnErr result (Holds (record self.old { state = record self.old.state { over = true } }) self.new) }
     {
-        self.finish();
+        self.over = true;
         self.owe_farewells()
     }
 
@@ -99,6 +103,16 @@ impl Session {
         ensures err { OnErr result (Holds (record self.old { state = record self.old.state { links = without_number link self.old.state.links } }) self.new) }
     {
         self.links.remove(link);
-        self.owe_loss(link)
+        self.owe_loss(link)?;
+        self.leave_link(link);
+        Ok(())
+    }
+
+    /// The clock shows something: a command that waits for a primary is routed once more.
+    fn tick(&mut self, wait_ms: u64, now_ms: u64)
+        ensures { self.new ≡ record self.old { state = ticks wait_ms now_ms self.old.state } }
+    {
+        self.now_ms = now_ms;
+        self.routing = self.routing.ticked(wait_ms, now_ms);
     }
 }

@@ -1,18 +1,18 @@
 //! What comes on the links is read, one thing after the other.
 ghost use Rattle.std.specs.Prelude.{◌≡◌, ◌++◌, ℕ, List, [], map, IfOk, OnErr, OnOk};
-ghost use Rattle.rws_config.specs.declared.config.Config.{Config};
 ghost use Rattle.rws_record.specs.Item.{Item};
-ghost use Rattle.rws_record.specs.Values.{links};
-ghost use Rattle.rws_record.specs.Rules.{after_preparing, drop_cause, due_arrival, form_of, owed, unasked};
+ghost use Rattle.rws_record.specs.Values.{class_by_pending, is_session, links};
+ghost use Rattle.rws_record.specs.Rules.{after_played, after_preparing, due_arrival, form_of, owed, unasked};
 ghost use Rattle.rws_links.specs.Links.{link_of};
-ghost use Rattle.rws_links.specs.Table.{AreDistinct, ReadsFirst};
+ghost use Rattle.rws_links.specs.Table.{AreDistinct, ReadsFirst, bans};
 ghost use Rattle.rws_session.specs.Kept.{Holds, Is};
-ghost use Rattle.rws_session.specs.Steps.{Tries, owes, owes_for, owes_reply};
+ghost use Rattle.rws_session.specs.Steps.{Tries, owes, owes_for, owes_reply, recording_in, takes_coming};
 
 use crate::owing::Out;
 use crate::session::Session;
-use rws_link::{LinkCause, LinkStep};
-use rws_links::{Asked, Coming};
+use rws_config::Config;
+use rws_link::LinkStep;
+use rws_links::{Asked, Coming, Recording, drop_cause};
 use rws_reply::{Outcome, Progress, Role, client_payload};
 use rws_wire::{DropCause, Text};
 use std::alloc::AllocError;
@@ -22,15 +22,15 @@ const PREPARED_HANDLE: u32 = 0;
 
 impl Session {
     /// Asks the links, in order of number, up to the first that has something to say.
-    pub(super) fn read_links(&mut self) -> Result<bool, AllocError>
-        ensures ok { (config : Config) (past : List Item) → Is config self.old past → owed past ≡ []
-            → IfOk result (λ went. Tries config (due_arrival (links past) past) past went self.old self.new) }
+    pub(super) fn read_links(&mut self, config: &Config) -> Result<bool, AllocError>
+        ensures ok { (past : List Item) → Is config.now self.old past → owed config.now past ≡ []
+            → IfOk result (λ went. Tries config.now (due_arrival (links past) past) past went self.old self.new) }
         ensures err { OnErr result (Holds self.old self.new) }
     {
         match self.next_coming()? {
             None => Ok(false),
             Some(coming) => {
-                self.take_coming(coming)?;
+                self.take_coming(coming, config)?;
                 Ok(true)
             }
         }
@@ -46,16 +46,40 @@ impl Session {
         self.links.read()
     }
 
+    /// Takes in what a link says.
+    fn take_coming(&mut self, coming: Coming, config: &Config) -> Result<(), AllocError>
+        ensures ok { OnOk result (self.new ≡ record self.old { state = takes_coming config.now.history_limit coming self.old.state }) }
+        ensures err { OnErr result (Holds self.old self.new) }
+    {
+        self.ban(&coming);
+        self.owe_coming(coming, config)
+    }
+
+    /// The link's server is banned, if it answers an entry of the history by an error.
+    fn ban(&mut self, coming: &Coming)
+        ensures { self.new ≡ record self.old {
+          state = record self.old.state { banned = bans coming.now.said coming.now.asked coming.now.server self.old.state.banned };
+        } }
+    {
+        self.banned = coming.bans(self.banned);
+    }
+
     /// Decides what follows on what a link says.
-    fn take_coming(&mut self, coming: Coming) -> Result<(), AllocError>
+    fn owe_coming(&mut self, coming: Coming, config: &Config) -> Result<(), AllocError>
         ensures ok { OnOk result (self.new ≡ record self.old {
           state = record self.old.state {
-            owed = owes_for coming.link coming.said coming.asked self.old.state.reply_number ++ self.old.state.owed;
+            owed = owes_for coming.link coming.said coming.asked self.old.state.reply_number (recording_in config.now.history_limit self.old.state)
+                ++ self.old.state.owed;
           };
         }) }
         ensures err { OnErr result (Holds self.old self.new) }
     {
-        let Coming { link, said, asked } = coming;
+        let Coming {
+            link,
+            server: _,
+            said,
+            asked,
+        } = coming;
         match said {
             LinkStep::Part {
                 payload,
@@ -64,7 +88,10 @@ impl Session {
                 next: _,
                 behind,
             } => match asked {
-                Some(Asked::Command) => self.take_part(link, payload, role, progress, behind),
+                Some(Asked::Command) => {
+                    self.take_part(link, payload, role, progress, behind, config)
+                }
+                Some(Asked::Entry) => self.take_played(link, progress, behind),
                 Some(Asked::Preamble) => self.take_prepared(link, progress, behind),
                 None => Ok(()),
             },
@@ -74,6 +101,21 @@ impl Session {
             }),
             LinkStep::Send(packets) => self.owe(Out::LogIn { link, packets }),
             LinkStep::LoggedIn | LinkStep::Idle => Ok(()),
+        }
+    }
+
+    /// A payload of the reply to an entry of the history came.
+    fn take_played(&mut self, link: u64, progress: Progress, behind: bool) -> Result<(), AllocError>
+        ensures ok { OnOk result (self.new ≡ record self.old { state = owes (after_played link progress behind) self.old.state }) }
+        ensures err { OnErr result (Holds self.old self.new) }
+    {
+        match progress {
+            Progress::More => Ok(()),
+            Progress::Whole(Outcome::Done { .. }) => self.owe_unasked(link, behind),
+            Progress::Whole(Outcome::Failed { .. }) => self.owe(Out::Drop {
+                link,
+                cause: DropCause::SessionDiffers,
+            }),
         }
     }
 
@@ -105,16 +147,18 @@ impl Session {
         role: Role,
         progress: Progress,
         behind: bool,
+        config: &Config,
     ) -> Result<(), AllocError>
         ensures ok { OnOk result (self.new ≡ record self.old {
           state = record self.old.state {
-            owed = owes_reply link (form_of role payload) progress behind self.old.state.reply_number ++ self.old.state.owed;
+            owed = owes_reply link (form_of role payload) progress behind self.old.state.reply_number
+                (recording_in config.now.history_limit self.old.state) ++ self.old.state.owed;
           };
         }) }
         ensures err { OnErr result (Holds self.old self.new) }
     {
         let form = client_payload(self.alloc, role, payload.as_slice(), PREPARED_HANDLE)?;
-        self.take_reply(link, form.unwrap_or(payload), progress, behind)
+        self.take_reply(link, form.unwrap_or(payload), progress, behind, config)
     }
 
     /// Decides what follows on a payload of the pending command's reply, in the client's form.
@@ -124,10 +168,12 @@ impl Session {
         payload: Text,
         progress: Progress,
         behind: bool,
+        config: &Config,
     ) -> Result<(), AllocError>
         ensures ok { OnOk result (self.new ≡ record self.old {
           state = record self.old.state {
-            owed = owes_reply link payload progress behind self.old.state.reply_number ++ self.old.state.owed;
+            owed = owes_reply link payload progress behind self.old.state.reply_number (recording_in config.now.history_limit self.old.state)
+                ++ self.old.state.owed;
           };
         }) }
         ensures err { OnErr result (Holds self.old self.new) }
@@ -139,16 +185,38 @@ impl Session {
                 link,
                 payload,
                 outcome: None,
+                recording: Recording::Nothing,
             }),
             Progress::Whole(outcome) => {
+                let recording = self.recording_of(outcome, config);
                 self.owe_unasked(link, behind)?;
                 self.owe(Out::Pass {
                     number,
                     link,
                     payload,
                     outcome: Some(outcome),
+                    recording,
                 })
             }
+        }
+    }
+
+    /// What the end of the pending command's reply means for the history.
+    fn recording_of(&self, outcome: Outcome, config: &Config) -> Recording
+        ensures { result ≡ recording_in config.now.history_limit self.now.state outcome }
+    {
+        let entries = self.accepted.len() as u64;
+        let full = entries >= u64::from(config.history_limit);
+        Recording::of(self.sets_session(), self.kept_on.is_some(), full, outcome)
+    }
+
+    /// The pending command sets the session alone.
+    fn sets_session(&self) -> bool
+        ensures { result ≡ is_session (class_by_pending self.now.state.pending) }
+    {
+        match &self.pending {
+            Some(command) => command.is_session(),
+            None => false,
         }
     }
 
@@ -164,19 +232,5 @@ impl Session {
             });
         }
         Ok(())
-    }
-}
-
-/// Why a link that is lost is given up.
-fn drop_cause(cause: LinkCause) -> DropCause
-    ensures { result ≡ drop_cause cause }
-{
-    match cause {
-        LinkCause::BadWire => DropCause::BadWire,
-        LinkCause::BadReply => DropCause::BadReply,
-        LinkCause::Unasked => DropCause::Unasked,
-        LinkCause::Greeting => DropCause::Greeting,
-        LinkCause::Plugin => DropCause::Plugin,
-        LinkCause::Login { code } => DropCause::Login { code },
     }
 }

@@ -1,28 +1,32 @@
 //! The steps of a session: each kind is tried, and goes where it is due.
 //!
-//! What is owed comes first. Where nothing is owed and the session isn't over, the worker is asked for a link that the pending
-//! command needs, a link that is logged in is prepared, the pending command is sent, then a flood behind it is refused, then what
-//! came on the links is read, and then what came of the client is taken up.
-ghost use Rattle.std.specs.Prelude.{◌≡◌, ◌+◌, ◌∷◌, ◌++◌, ℕ, length, List, [], map, Some, None, IfOk, OnErr, OnOk, IfSome, MatchOption, is_some};
+//! What is owed comes first. Where nothing is owed and the session isn't over, the worker is asked where the pending command is
+//! to go, the links are sent what is due on them, then a flood behind the command is refused, then what came on the links is read,
+//! and then what came of the client is taken up.
+ghost use Rattle.std.specs.Prelude.{◌≡◌, ◌+◌, ◌∷◌, ◌++◌, ℕ, length, List, [], map, Some, None, IfOk, OnErr, OnOk, IfSome, MatchOption, is_some, slice_get, false, true, if◌then◌else◌};
+ghost use Rattle.rws_wire.specs.declared.drop_cause.DropCause.TheVariants as causes;
 ghost use Rattle.rws_config.specs.declared.config.Config.{Config};
 ghost use Rattle.rws_record.specs.Item.{Item};
-ghost use Rattle.rws_record.specs.Item.Purpose.{Asks, Prepares};
-ghost use Rattle.rws_record.specs.Values.{asking, links};
-ghost use Rattle.rws_record.specs.Rules.{after_flood, due_arrival, due_flood, due_prepare, due_route, due_send, due_take, flood_by, flood_limit, next, owed};
+ghost use Rattle.rws_record.specs.Item.Purpose.{Asks, Plays, Prepares};
+ghost use Rattle.rws_record.specs.Values.{asking, goes_by, links};
+ghost use Rattle.rws_record.specs.Rules.{after_flood, due_flood, due_route, due_sends, flood_by, flood_limit, next, owed};
+ghost use Rattle.rws_links.specs.Finding.{first_due};
 ghost use Rattle.rws_links.specs.Links.{link_of};
-ghost use Rattle.rws_links.specs.Table.{AreDistinct, SendsOn};
+ghost use Rattle.rws_links.specs.Table.{AreDistinct, SendsOn, without_number};
+ghost use Rattle.rws_session.specs.declared.owing.Out.TheVariants as outs;
 ghost use Rattle.rws_session.specs.Kept.{Holds, Is};
-ghost use Rattle.rws_session.specs.Steps.{SendsPending, SendsPreamble, Tries, due_put, going_on, owes};
+ghost use Rattle.rws_session.specs.Steps.{SendsEntry, SendsPending, SendsPreamble, Tries, due_put, is_unrouted, others_dropped, owes, unsent};
 
 use crate::owing::Out;
 use crate::session::Session;
 use rws_board::Action;
 use rws_config::{Config, FLOOD_ROOM};
-use rws_links::Asked;
+use rws_links::{Asked, Due, NumberedLink};
 use rws_record::{ProxyError, preamble};
 use rws_reply::Kind;
-use rws_wire::{CloseReason, Text};
+use rws_wire::{CloseReason, DropCause, Text};
 use std::alloc::AllocError;
+use std::collections::VecDeque;
 
 impl Session {
     /// Makes the next step, and says whether there was one.
@@ -37,13 +41,10 @@ impl Session {
         if self.pay()? {
             return Ok(true);
         }
-        if self.ended() {
+        if self.is_over() {
             return Ok(false);
         }
-        if self.ask()? {
-            return Ok(true);
-        }
-        if self.prepare()? {
+        if self.ask() {
             return Ok(true);
         }
         if self.send()? {
@@ -52,7 +53,7 @@ impl Session {
         if self.refuse_flood(config)? {
             return Ok(true);
         }
-        if self.read_links()? {
+        if self.read_links(config)? {
             return Ok(true);
         }
         self.take_up(config)
@@ -61,7 +62,7 @@ impl Session {
     /// Gives out what is owed first.
     fn pay(&mut self) -> Result<bool, AllocError>
         ensures ok { (config : Config) (past : List Item) → Is config self.old past
-            → IfOk result (λ went. Tries config (due_put (owed past)) past went self.old self.new) }
+            → IfOk result (λ went. Tries config (due_put (owed config past)) past went self.old self.new) }
         ensures err { OnErr result (Holds self.old self.new) }
     {
         match self.next_owed() {
@@ -82,32 +83,73 @@ impl Session {
         self.owed.pop_front()
     }
 
-    /// Asks the worker where the pending command is to go, where the session has no link.
-    fn ask(&mut self) -> Result<bool, AllocError>
-        ensures ok { (config : Config) (past : List Item) → Is config self.old past → owed past ≡ [] → asking past ≡ None
-            → IfOk result (λ went. Tries config (due_route past) past went self.old self.new) }
-        ensures err { OnErr result (Holds self.old self.new) }
+    /// Asks the worker where the pending command is to go, where that isn't known and the command doesn't wait for a primary.
+    fn ask(&mut self) -> bool
+        ensures { (config : Config) (past : List Item) → Is config self.old past → owed config past ≡ [] → asking past ≡ false
+            → Tries config (due_route config past) past result self.old self.new }
     {
-        if !self.is_busy() || self.kept_on.is_some() {
-            return Ok(false);
+        if !self.is_unrouted() {
+            return false;
         }
-        let Some(login) = &self.login else {
-            return Ok(false);
-        };
-        self.asking = Some(login.again()?);
-        Ok(true)
+        self.asking = true;
+        true
     }
 
-    /// Prepares the link that the session is kept on, as soon as it is logged in.
-    fn prepare(&mut self) -> Result<bool, AllocError>
-        ensures ok { (config : Config) (past : List Item) → Is config self.old past → owed past ≡ []
-            → IfOk result (λ went. Tries config (due_prepare past) past went self.old self.new) }
+    /// It isn't known where the pending command goes, and it doesn't wait.
+    fn is_unrouted(&self) -> bool
+        ensures { result ≡ is_unrouted self.now.state }
+    {
+        self.is_busy() && self.goes_on().is_none() && !self.routing.waits
+    }
+
+    /// The link that the pending command is to go on.
+    fn goes_on(&self) -> Option<u64>
+        ensures { result ≡ goes_by self.now.state.kept_on self.now.state.routing.assigned }
+    {
+        self.kept_on.or(self.routing.assigned)
+    }
+
+    /// Sends what is due on the first link on which something is: the preamble, an entry of the history, or the pending command.
+    fn send(&mut self) -> Result<bool, AllocError>
+        ensures ok { (config : Config) (past : List Item) → Is config self.old past → owed config past ≡ []
+            → IfOk result (λ went. Tries config (due_sends config (links past) past) past went self.old self.new) }
         ensures err { OnErr result (Holds self.old self.new) }
     {
-        match self.home() {
+        match self.due() {
             None => Ok(false),
-            Some(link) => self.send_preamble(link),
+            Some(due) => self.send_due(due),
         }
+    }
+
+    /// Sends what is due first.
+    fn send_due(&mut self, due: Due) -> Result<bool, AllocError>
+        ensures ok { (config : Config) (past : List Item) → Is config self.old past → owed config past ≡ []
+            → first_due (unsent self.old.state) (length self.old.state.accepted) self.old.state.links ≡ Some due
+            → IfOk result (λ went. Tries config (due_sends config (links past) past) past went self.old self.new) }
+        ensures err { OnErr result (Holds self.old self.new) }
+    {
+        match due.asked {
+            Asked::Preamble => self.send_preamble(due.link),
+            Asked::Entry => self.send_entry(due.link, due.entry),
+            Asked::Command => self.send_pending(due.link),
+        }
+    }
+
+    /// The first link on which something is due, and what.
+    fn due(&self) -> Option<Due>
+        ensures { result ≡ first_due (unsent self.now.state) (length self.now.state.accepted) self.now.state.links }
+    {
+        self.links.due(self.unsent(), self.accepted.len())
+    }
+
+    /// The link that the pending command is to go on, where it isn't sent yet.
+    fn unsent(&self) -> Option<u64>
+        ensures { result ≡ unsent self.now.state }
+    {
+        if self.is_busy() && self.sent_on.is_none() {
+            return self.goes_on();
+        }
+        None
     }
 
     /// Sends the preamble on a link, if that waits for it.
@@ -132,26 +174,25 @@ impl Session {
         Ok(true)
     }
 
-    /// Sends the pending command, where it isn't sent yet, as soon as the link that the session is kept on may be sent one.
-    fn send(&mut self) -> Result<bool, AllocError>
-        ensures ok { (config : Config) (past : List Item) → Is config self.old past → owed past ≡ []
-            → IfOk result (λ went. Tries config (due_send past) past went self.old self.new) }
+    /// Sends an entry of the history on a link, if there is this one and the link may be sent it.
+    fn send_entry(&mut self, link: u64, entry: usize) -> Result<bool, AllocError>
+        ensures sends { IfOk result (λ went. SendsEntry link (slice_get self.old.state.accepted entry) went self.old self.new) }
+        ensures links { (past : List Item) (numbers : List ℕ) → self.old.state.links ≡ map (link_of past) numbers → AreDistinct numbers
+            → IfSome (slice_get self.old.state.accepted entry) (λ command. IfOk result (λ went. SendsOn link (Plays command) past numbers went self.new.state.links)) }
         ensures err { OnErr result (Holds self.old self.new) }
     {
-        match self.going_on() {
-            None => Ok(false),
-            Some(link) => self.send_pending(link),
+        let Some(command) = self.accepted.get(entry) else {
+            return Ok(false);
+        };
+        let mut bytes = Vec::new(self.alloc);
+        if !self.links.send_entry(link, command, &mut bytes)? {
+            return Ok(false);
         }
-    }
-
-    /// The link that the pending command is to go on, where it isn't sent yet.
-    fn going_on(&self) -> Option<u64>
-        ensures { result ≡ going_on self.now.state.pending self.now.state.sent_on self.now.state.kept_on }
-    {
-        if self.is_busy() && self.sent_on.is_none() {
-            return self.kept_on;
-        }
-        None
+        self.outs.push_back(Action::ToLink {
+            link,
+            bytes: Text::new(bytes),
+        })?;
+        Ok(true)
     }
 
     /// Sends the pending command on a link, if that may be sent one.
@@ -164,21 +205,54 @@ impl Session {
         let Some(command) = &self.pending else {
             return Ok(false);
         };
+        let keeping = command.keeps() && self.kept_on.is_none();
         let mut bytes = Vec::new(self.alloc);
-        if !self.links.send_command(link, command, &mut bytes)? {
+        if !self
+            .links
+            .send_command(link, command.command(), &mut bytes)?
+        {
             return Ok(false);
         }
+        self.owe_keeping(keeping, link)?;
         self.outs.push_back(Action::ToLink {
             link,
             bytes: Text::new(bytes),
         })?;
-        self.sent_on = Some(link);
+        self.note_sent(keeping, link);
         Ok(true)
+    }
+
+    /// Where the session is to be kept on this link, the others are given up.
+    pub(super) fn owe_keeping(&mut self, keeping: bool, link: u64) -> Result<(), AllocError>
+        ensures ok { OnOk result (self.new ≡ record self.old {
+          state = record self.old.state { owed = others_dropped keeping link self.old.state.links ++ self.old.state.owed };
+        }) }
+        ensures holds { Holds self.old self.new }
+    {
+        if keeping {
+            return drop_others(self.links.as_slice(), link, &mut self.owed);
+        }
+        Ok(())
+    }
+
+    /// The pending command was sent on this link, on which the session is kept from now on, or not.
+    fn note_sent(&mut self, keeping: bool, link: u64)
+        ensures { self.new ≡ record self.old {
+          state = record self.old.state {
+            sent_on = Some link;
+            kept_on = if keeping then Some link else self.old.state.kept_on;
+          };
+        } }
+    {
+        self.sent_on = Some(link);
+        if keeping {
+            self.kept_on = Some(link);
+        }
     }
 
     /// Breaks the session off where the client sent on too far behind the pending command.
     fn refuse_flood(&mut self, config: &Config) -> Result<bool, AllocError>
-        ensures ok { (past : List Item) → Is config.now self.old past → owed past ≡ []
+        ensures ok { (past : List Item) → Is config.now self.old past → owed config.now past ≡ []
             → IfOk result (λ went. Tries config.now (due_flood config.now past) past went self.old self.new) }
         ensures err { OnErr result (Holds self.old self.new) }
     {
@@ -220,18 +294,11 @@ impl Session {
         })
     }
 
-    /// The link that the session is kept on.
-    fn home(&self) -> Option<u64>
-        ensures { result ≡ self.now.state.kept_on }
-    {
-        self.kept_on
-    }
-
     /// The worker was asked, and didn't answer yet.
     pub(super) fn is_asking(&self) -> bool
-        ensures { result ≡ is_some self.now.state.asking }
+        ensures { result ≡ self.now.state.asking }
     {
-        self.asking.is_some()
+        self.asking
     }
 
     /// A command is pending.
@@ -239,5 +306,29 @@ impl Session {
         ensures { result ≡ is_some self.now.state.pending }
     {
         self.pending.is_some()
+    }
+}
+
+/// Each link but this one is to be given up, before what is owed.
+fn drop_others(
+    links: &[NumberedLink],
+    kept: u64,
+    owed: &mut VecDeque<Out>,
+) -> Result<(), AllocError>
+    ensures { OnOk result (map Some owed.new.items ≡ map (λ link. Some (outs.Drop link.number causes.Kept)) (without_number kept links.now) ++ map Some owed.old.items) }
+{
+    match links {
+        [] => Ok(()),
+        [first, others @ ..] => {
+            drop_others(others, kept, owed)?;
+            if first.number == kept {
+                return Ok(());
+            }
+            owed.push_front(Out::Drop {
+                link: first.number,
+                cause: DropCause::Kept,
+            })?;
+            Ok(())
+        }
     }
 }

@@ -5,31 +5,28 @@ ghost use Rattle.rws_front.specs.Names.{IsNamed};
 ghost use Rattle.rws_record.specs.Item.{Item};
 ghost use Rattle.rws_record.specs.Item.Put.{Closes, Hands};
 ghost use Rattle.rws_record.specs.Judging.{is_forbidden, judged, query_judged};
-ghost use Rattle.rws_record.specs.Requests.{class_by};
+ghost use Rattle.rws_record.specs.Requests.{class_by, request_of};
 ghost use Rattle.rws_record.specs.declared.request.Request.TheVariants.{Query};
 ghost use Rattle.rws_record.specs.Rules.{due_take, owed};
 ghost use Rattle.rws_session.specs.Kept.{Holds, Is};
-ghost use Rattle.rws_session.specs.Steps.{TakesSaid, Tries, answers, owes, recounted, takes};
+ghost use Rattle.rws_session.specs.Steps.{TakesSaid, Tries, answers, begins_reply, owes, recounted, takes};
 
 use crate::owing::Out;
 use crate::session::Session;
 use rws_class::Class;
 use rws_config::Config;
 use rws_front::FrontStep;
-use rws_links::LinkLogin;
-use rws_msgs::status::AUTOCOMMIT;
-use rws_record::{Command, ProxyError, Request};
+use rws_links::{ClassedCommand, LinkLogin, is_forbidden, own_status};
+use rws_record::{ProxyError, Request};
 use rws_reply::Kind;
+use rws_routing::Routing;
 use rws_wire::{CloseReason, Payload, Text};
 use std::alloc::AllocError;
-
-/// The status of the proxy's own OKs: autocommit is on, and no transaction is open.
-const OWN_STATUS: u16 = AUTOCOMMIT;
 
 impl Session {
     /// Takes up what comes next of the client, where no command is pending.
     pub(super) fn take_up(&mut self, config: &Config) -> Result<bool, AllocError>
-        ensures ok { (past : List Item) → Is config.now self.old past → owed past ≡ []
+        ensures ok { (past : List Item) → Is config.now self.old past → owed config.now past ≡ []
             → IfOk result (λ went. Tries config.now (due_take config.now past) past went self.old self.new) }
         ensures err { OnErr result (Holds self.old self.new) }
     {
@@ -107,11 +104,15 @@ impl Session {
             }),
             Request::Ping => self.owe(Out::Own {
                 number,
-                status: OWN_STATUS,
+                status: own_status(self.autocommit),
             }),
             Request::Query => self.take_query(payload, number),
             Request::FieldList => {
-                self.serve(Kind::FieldList, payload, number);
+                self.serve(Kind::FieldList, payload, number, Class::PrimaryRead);
+                Ok(())
+            }
+            Request::InitDb => {
+                self.serve(Kind::Simple, payload, number, Class::Session);
                 Ok(())
             }
             Request::Unsupported => self.owe(Out::Refuse {
@@ -127,47 +128,40 @@ impl Session {
 
     /// Takes up a query: a text that may not be sent is refused, and any other is for a server.
     fn take_query(&mut self, payload: Text, number: u8) -> Result<(), AllocError>
+        requires { request_of payload ≡ Query }
         ensures ok { OnOk result (self.new ≡ record self.old { state = answers (query_judged (is_forbidden (class_by Query payload)) payload number) number self.old.state }) }
         ensures err { OnErr result (Holds self.old self.new) }
     {
-        if is_forbidden(Request::Query.class(payload.as_slice())) {
+        let class = Request::Query.class(payload.as_slice());
+        if is_forbidden(class) {
             return self.owe(Out::Refuse {
                 number,
                 error: ProxyError::NotSupported,
             });
         }
-        self.serve(Kind::Query, payload, number);
+        self.serve(Kind::Query, payload, number, class);
         Ok(())
     }
 
-    /// The client is told nothing yet of a new command's reply.
+    /// A new command isn't routed yet, and the client is told nothing of its reply.
     fn begin_reply(&mut self, number: u8)
-        ensures { self.new ≡ record self.old { state = record self.old.state { sent_on = None; told_from = None; reply_number = number } } }
+        ensures { self.new ≡ record self.old { state = begins_reply number self.old.state } }
     {
         self.sent_on = None;
         self.told_from = None;
         self.reply_number = number;
+        self.routing = Routing::new();
     }
 
-    /// A command is one that a server is to answer.
-    fn serve(&mut self, kind: Kind, payload: Text, number: u8)
+    /// A command of this class is one that a server is to answer.
+    fn serve(&mut self, kind: Kind, payload: Text, number: u8, class: Class)
+        requires { class ≡ class_by (request_of payload) payload }
         ensures { self.new ≡ record self.old {
           state = record self.old.state {
             pending = Some (record { payload = payload; kind = kind; number = number });
           };
         } }
     {
-        self.pending = Some(Command {
-            payload,
-            kind,
-            number,
-        });
+        self.pending = Some(ClassedCommand::new(payload, kind, number, class));
     }
-}
-
-/// A text of this class isn't sent to any server.
-fn is_forbidden(class: Class) -> bool
-    ensures { result ≡ is_forbidden class }
-{
-    matches!(class, Class::Refused)
 }
