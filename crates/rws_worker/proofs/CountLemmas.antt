@@ -15,7 +15,7 @@ use Rattle.std.specs.Set.{is_member}
 use Rattle.std.specs.Map.{keys_of, lookup}
 use Rattle.rws_config.specs.declared.config.Config.{Config}
 use Rattle.rws_record.specs.Item.{Item}
-use Rattle.rws_record.specs.Item.Item.{Accepted, TurnsAway, Began, ClientBytes, LinkReady, LinkBytes, ClientGone, LinkLost, Starves}
+use Rattle.rws_record.specs.Item.Item.{Accepted, TurnsAway, Began, ClientBytes, LinkReady, LinkBytes, ClientGone, LinkLost, Ticks, Starves}
 use Rattle.rws_record.specs.Record.{IsBeginning, IsInput}
 use Rattle.rws_record.specs.Run.{Entry, IsRun, begins_session, begun, hearer, is_live, open_sessions, record_of}
 use Rattle.rws_record.specs.Run.Entry.{Heard, Did}
@@ -27,10 +27,10 @@ use Rattle.rws_record.proofs.RecordLemmas.Hearable.{begins_it, comes_in}
 use Rattle.rws_session.specs.Kept.{Kept}
 use Rattle.rws_worker.specs.Standing.{SeatStands}
 
-abbrev same_number : ℕ → ℕ → Bool
+abbrev pub same_number : ℕ → ℕ → Bool
 same_number = eq_by_cmp nat_cmp
 
-abbrev has : List ℕ → ℕ → Bool
+abbrev pub has : List ℕ → ℕ → Bool
 has numbers n = is_member same_number numbers n
 
 -- Lists of numbers
@@ -39,14 +39,14 @@ all_behind : (P : ℕ → Type 0) (list : List ℕ) (last : ℕ) → AllByRecurs
 all_behind P [] last all p = (p, tt)
 all_behind P (x ∷ xs) last all p = (all.0, all_behind P xs last all.1 p)
 
-differs : (x last : ℕ) → (x ≡ last → ⊥) → same_number x last ≡ false
+pub differs : (x last : ℕ) → (x ≡ last → ⊥) → same_number x last ≡ false
 differs x last apart = by_test (x == last) refl
   where
     by_test : (test : Bool) → (x == last) ≡ test → same_number x last ≡ false
     by_test true e = absurd (apart (eqb-true x last e))
     by_test false e = unsigned_tied x last ∙ e
 
-same_at : (x last : ℕ) → same_number last x ≡ true → last ≡ x
+pub same_at : (x last : ℕ) → same_number last x ≡ true → last ≡ x
 same_at x last e = eqb-true last x (sym (unsigned_tied last x) ∙ e)
 
 itself : (n : ℕ) → same_number n n ≡ true
@@ -102,16 +102,16 @@ keys_have n (e ∷ es) = by_test (is_at (nat_cmp n) e.0) (keys_have n es)
 
 -- The sessions that ever began
 
-record Known (run : List Entry) : Type 0 where
-  some : (n : ℕ) → (record_of n run ≡ [] → ⊥) → has (begun run) n ≡ true
-  only : (n : ℕ) → has (begun run) n ≡ true → record_of n run ≡ [] → ⊥
-  distinct : IsDistinct same_number (begun run)
-  its : (n : ℕ) → hearer run ≡ Some n → record_of n run ≡ [] → ⊥
+pub record Known (run : List Entry) : Type 0 where
+  pub some : (n : ℕ) → (record_of n run ≡ [] → ⊥) → has (begun run) n ≡ true
+  pub only : (n : ℕ) → has (begun run) n ≡ true → record_of n run ≡ [] → ⊥
+  pub distinct : IsDistinct same_number (begun run)
+  pub its : (n : ℕ) → hearer run ≡ Some n → record_of n run ≡ [] → ⊥
 
 beginning_begins : (session : ℕ) (item : Item) → IsBeginning item → begins_session session item ≡ session ∷ []
-beginning_begins session (Accepted number scramble) it = refl
+beginning_begins session (Accepted number scramble reading) it = refl
 beginning_begins session (TurnsAway told) it = refl
-beginning_begins session (Began link server) it = refl
+beginning_begins session (Began link server reading) it = refl
 beginning_begins session _ it = absurd it
 
 input_begins_none : (session : ℕ) (item : Item) (past : List Item) → IsInput item past → begins_session session item ≡ []
@@ -120,6 +120,7 @@ input_begins_none session ClientGone past input = refl
 input_begins_none session (LinkReady link) past input = refl
 input_begins_none session (LinkBytes link bytes) past input = refl
 input_begins_none session (LinkLost link) past input = refl
+input_begins_none session (Ticks reading) past input = refl
 input_begins_none session _ past input = absurd input
 
 -- one that has begun has an item more
@@ -198,10 +199,10 @@ next_known : {config : Config} {run : List Entry} {entry : Entry} → IsRun conf
 next_known {run = run} legal (did {session = session} {item = item} h n) k = did_known run session item h k
 next_known {run = run} legal (answered {session = session} h a) k = did_known run session _ h k
 next_known {run = run} legal (heard {session = session} {item = item} quiet none u) k =
-    heard_known run session item (first_of (each_of legal).tells u).hearable k
+    heard_known run session item (first_of (each_of legal) (each_of legal).tells u).hearable k
 next_known legal (observes quiet none u o) k = record { some = k.some; only = k.only; distinct = k.distinct; its = k.its }
 
-known : {config : Config} {run : List Entry} → IsRun config run → Known run
+pub known : {config : Config} {run : List Entry} → IsRun config run → Known run
 unfolding IsDistinct
 known starts = record { some = λ n there. absurd (there refl); only = λ n is. absurd cc; distinct = tt; its = λ n h. absurd cc }
 known (came {run = run} legal quiet) =
@@ -212,7 +213,7 @@ known (starves {run = run} {session = session} {number = number} {made = made} l
 
 -- Those that are open
 
-live_is_there : (past : List Item) → is_live past ≡ true → past ≡ [] → ⊥
+pub live_is_there : (past : List Item) → is_live past ≡ true → past ≡ [] → ⊥
 live_is_there past live none = let clash : false ≡ true = rw none at live in cc
 
 open_has : {config : Config} {run : List Entry} → IsRun config run → (n : ℕ) → has (open_sessions run) n ≡ is_live (record_of n run)
@@ -225,16 +226,16 @@ open_has {run = run} legal n =
     by_live false e = refl
     by_live true e = (known legal).some n (live_is_there (record_of n run) e)
 
-seat_has : (config : Config) (n : ℕ) (o : Option Kept) (run : List Entry) → SeatStands config n o run → is_some o ≡ is_live (record_of n run)
-seat_has config n (Some kept) run seat = sym seat.live
-seat_has config n None run seat = sym seat
+seat_has : (config : Config) (n : ℕ) (asks : Bool) (o : Option Kept) (run : List Entry) → SeatStands config n asks o run → is_some o ≡ is_live (record_of n run)
+seat_has config n asks (Some kept) run seat = sym seat.live
+seat_has config n asks None run seat = sym seat
 
 pub as_many : (config : Config) (sessions : BTreeMap ℕ Kept) (run : List Entry) → IsRun config run → IsOrdered nat_cmp sessions
-    → ((n : ℕ) → SeatStands config n (get nat_cmp sessions n) run) → length sessions.entries ≡ length (open_sessions run)
+    → ((n : ℕ) → SeatStands config n false (get nat_cmp sessions n) run) → length sessions.entries ≡ length (open_sessions run)
 as_many config sessions run legal ordered seats =
     let laws = eq_by_cmp_equiv nat_cmp_total in
     let there : (n : ℕ) → has (keys sessions) n ≡ has (open_sessions run) n =
-    λ n. keys_have n sessions.entries ∙ seat_has config n (get nat_cmp sessions n) run (seats n) ∙ sym (open_has legal n) in
+    λ n. keys_have n sessions.entries ∙ seat_has config n false (get nat_cmp sessions n) run (seats n) ∙ sym (open_has legal n) in
     let low = length-le_from_is_member laws (keys sessions) (open_sessions run) (IsDistinct-from_sorted nat_cmp (keys sessions) ordered)
     (λ n is. sym (there n) ∙ is) in
     let high = length-le_from_is_member laws (open_sessions run) (keys sessions)

@@ -9,16 +9,18 @@ use Rattle.rws_board.specs.declared.event.Event.{Event}
 use Rattle.rws_board.specs.declared.event.Event.TheVariants as events
 use Rattle.rws_board.specs.declared.interaction.Interaction.{Interaction}
 use Rattle.rws_board.specs.declared.interaction.Interaction.TheVariants.{Gave, Took, Told}
-use Rattle.rws_pool.specs.declared.events.PoolCall.TheVariants.{Observe}
+use Rattle.rws_pool.specs.declared.events.PoolCall.{PoolCall}
+use Rattle.rws_pool.specs.declared.events.PoolCall.TheVariants.{Observe, Route}
 use Rattle.rws_pool.specs.declared.events.PoolEvent.{PoolEvent}
 use Rattle.rws_pool.specs.declared.words.PoolWords.{PoolWords}
 use Rattle.rws_pool.specs.declared.words.Round.{Round}
 use Rattle.rws_pool.specs.History.{event_of}
 use Rattle.rws_pool.specs.Machine.{pool_from, pool_step}
 use Rattle.rws_config.specs.declared.config.Config.{Config}
-use Rattle.rws_record.specs.Item.{Item}
-use Rattle.rws_record.specs.Item.Item.{Starves}
-use Rattle.rws_record.specs.Outputs.{outs_of}
+use Rattle.rws_record.specs.Item.{Item, Put}
+use Rattle.rws_record.specs.Item.Item.{Accepted, TurnsAway, Began, ClientBytes, LinkReady, LinkBytes, ClientGone, LinkLost, Ticks, Routed, Comes, Connects, Takes, Floods, Puts, Starves}
+use Rattle.rws_record.specs.Item.Put.{Hands, Tells, Routes, Opens, LogsInto, Sends, Drops, Closes}
+use Rattle.rws_record.specs.Outputs.{calls_of, done_for as done_by, outs_of}
 use Rattle.rws_record.specs.Run.{Entry, IsRun, next_entry, record_of, events_of, done_in, pool_events_of}
 use Rattle.rws_record.specs.Run.Entry.{Came, Heard, Did, Observes}
 use Rattle.rws_record.specs.Run.IsRun.{starts, came, goes_on, starves}
@@ -40,6 +42,22 @@ takes_are_taken (action ∷ actions) = ap (λ (xs : List Interaction). Took acti
 takes_tell_none : (actions : List Action) → events_told (map Took actions) ≡ []
 takes_tell_none [] = refl
 takes_tell_none (action ∷ actions) = takes_tell_none actions
+
+-- nor do calls, and the words take nothing of a Route
+
+calls_give_none : (calls : List PoolCall) → events_given (map Told calls) ≡ []
+calls_give_none [] = refl
+calls_give_none (call ∷ calls) = calls_give_none calls
+
+calls_are_left : (calls : List PoolCall) → without_gave (map Told calls) ≡ map Told calls
+calls_are_left [] = refl
+calls_are_left (call ∷ calls) = ap (λ (xs : List Interaction). Told call ∷ xs) (calls_are_left calls)
+
+pub done_gives_none : (session : ℕ) (item : Item) (past : List Item) → events_given (done_by session item past) ≡ []
+done_gives_none session item past =
+    events_given-append (map Took (outs_of session item past)) (map Told (calls_of session item))
+    ∙ ap (λ (xs : List Event). xs ++ events_given (map Told (calls_of session item))) (takes_give_none (outs_of session item past))
+    ∙ calls_give_none (calls_of session item)
 
 -- an event that is given is left out, and none of the words takes anything of it
 
@@ -74,9 +92,9 @@ one_event run event = events_given-append (interactions_of run) (given event)
 no_more : (session : ℕ) (item : Item) (run : List Entry)
     → events_given (interactions_of (Did session item ∷ run)) ≡ events_given (interactions_of run)
 no_more session item run =
-    let outs = outs_of session item (record_of session run) in
-    events_given-append (interactions_of run) (map Took outs)
-    ∙ ap (λ (xs : List Event). events_given (interactions_of run) ++ xs) (takes_give_none outs)
+    let done = done_by session item (record_of session run) in
+    events_given-append (interactions_of run) done
+    ∙ ap (λ (xs : List Event). events_given (interactions_of run) ++ xs) (done_gives_none session item (record_of session run))
     ∙ append-nil (events_given (interactions_of run))
 
 no_more_observed : (round : Round) (run : List Entry)
@@ -150,9 +168,14 @@ without_gave-run (Came event ∷ run) =
 without_gave-run (Heard session item ∷ run) = without_gave-run run
 without_gave-run (Did session item ∷ run) =
     let outs = outs_of session item (record_of session run) in
-    without_gave-append (interactions_of run) (map Took outs)
-    ∙ ap (λ (xs : List Interaction). without_gave (interactions_of run) ++ xs) (takes_are_taken outs)
-    ∙ ap (λ (xs : List Interaction). xs ++ map Took outs) (without_gave-run run)
+    let calls = calls_of session item in
+    let done = done_by session item (record_of session run) in
+    without_gave-append (interactions_of run) done
+    ∙ ap (λ (xs : List Interaction). without_gave (interactions_of run) ++ xs)
+    (without_gave-append (map Took outs) (map Told calls)
+    ∙ ap (λ (xs : List Interaction). xs ++ without_gave (map Told calls)) (takes_are_taken outs)
+    ∙ ap (λ (xs : List Interaction). map Took outs ++ xs) (calls_are_left calls))
+    ∙ ap (λ (xs : List Interaction). xs ++ done) (without_gave-run run)
 without_gave-run (Observes round ∷ run) =
     without_gave-append (interactions_of run) (Told (Observe round) ∷ [])
     ∙ ap (λ (xs : List Interaction). xs ++ Told (Observe round) ∷ []) (without_gave-run run)
@@ -174,26 +197,77 @@ events_told-append (Gave event ∷ xs) ys = events_told-append xs ys
 events_told-append (Took action ∷ xs) ys = events_told-append xs ys
 events_told-append (Told call ∷ xs) ys = ap (λ (zs : List PoolEvent). event_of call ∷ zs) (events_told-append xs ys)
 
--- the steps that are told in a run are those that the words take in it
-pub events_told-run : (run : List Entry) → events_told (interactions_of run) ≡ pool_events_of run
-events_told-run [] = refl
-events_told-run (Came event ∷ run) =
-    events_told-append (interactions_of run) (given event)
-    ∙ ap (λ (xs : List PoolEvent). events_told (interactions_of run) ++ xs) (given_tells_none event)
-    ∙ append-nil (events_told (interactions_of run)) ∙ events_told-run run
-events_told-run (Heard session item ∷ run) = events_told-run run
-events_told-run (Did session item ∷ run) =
-    let outs = outs_of session item (record_of session run) in
-    events_told-append (interactions_of run) (map Took outs)
-    ∙ ap (λ (xs : List PoolEvent). events_told (interactions_of run) ++ xs) (takes_tell_none outs)
-    ∙ append-nil (events_told (interactions_of run)) ∙ events_told-run run
-events_told-run (Observes round ∷ run) =
-    events_told-append (interactions_of run) (Told (Observe round) ∷ [])
-    ∙ ap (λ (xs : List PoolEvent). xs ++ event_of (Observe round) ∷ []) (events_told-run run)
+-- each of them asks for the words
+abbrev AreRoutes : List PoolCall → Type 0
+AreRoutes [] = Unit {0}
+AreRoutes (Route session ∷ calls) = AreRoutes calls
+AreRoutes (_ ∷ calls) = ⊥
 
 pub pool_from-append : (words : PoolWords) (xs ys : List PoolEvent) → pool_from words (xs ++ ys) ≡ pool_from (pool_from words xs) ys
 pool_from-append words [] ys = refl
 pool_from-append words (event ∷ xs) ys = pool_from-append (pool_step words event) xs ys
+
+-- the words take nothing of what a session does
+
+routes_by_calls : (calls : List PoolCall) → (words : PoolWords) → AreRoutes calls → pool_from words (events_told (map Told calls)) ≡ words
+routes_by_calls [] words are = refl
+routes_by_calls (Route session ∷ calls) words are = routes_by_calls calls words are
+routes_by_calls (_ ∷ calls) words are = absurd are
+
+put_routes : (session : ℕ) (put : Put) → AreRoutes (calls_of session (Puts put))
+put_routes session Routes = tt
+put_routes session (Hands packets) = tt
+put_routes session (Tells number tell) = tt
+put_routes session (Opens link server login) = tt
+put_routes session (LogsInto link packets) = tt
+put_routes session (Sends link purpose) = tt
+put_routes session (Drops link cause) = tt
+put_routes session (Closes reason) = tt
+
+are_routes : (session : ℕ) (item : Item) → AreRoutes (calls_of session item)
+are_routes session (Puts put) = put_routes session put
+are_routes session (Accepted number scramble reading) = tt
+are_routes session (TurnsAway told) = tt
+are_routes session (Began link server reading) = tt
+are_routes session (ClientBytes bytes) = tt
+are_routes session (LinkReady link) = tt
+are_routes session (LinkBytes link bytes) = tt
+are_routes session ClientGone = tt
+are_routes session (LinkLost link) = tt
+are_routes session (Ticks reading) = tt
+are_routes session (Routed words loads next found) = tt
+are_routes session (Comes link said) = tt
+are_routes session (Connects said) = tt
+are_routes session (Takes judged number) = tt
+are_routes session (Floods held) = tt
+are_routes session (Starves made number) = tt
+
+taken_alike : (session : ℕ) (item : Item) (past : List Item) (words : PoolWords) → pool_from words (events_told (done_by session item past)) ≡ words
+taken_alike session item past words =
+    let outs = outs_of session item past in let calls = calls_of session item in
+    ap (pool_from words) (events_told-append (map Took outs) (map Told calls)
+    ∙ ap (λ (xs : List PoolEvent). xs ++ events_told (map Told calls)) (takes_tell_none outs))
+    ∙ routes_by_calls calls words (are_routes session item)
+
+-- what the words take of all that is told in a run is what they take in it
+pub words_told : (words : PoolWords) (run : List Entry) → pool_from words (events_told (interactions_of run)) ≡ pool_from words (pool_events_of run)
+words_told words [] = refl
+words_told words (Came event ∷ run) =
+    ap (pool_from words) (events_told-append (interactions_of run) (given event)
+    ∙ ap (λ (xs : List PoolEvent). events_told (interactions_of run) ++ xs) (given_tells_none event)
+    ∙ append-nil (events_told (interactions_of run))) ∙ words_told words run
+words_told words (Heard session item ∷ run) = words_told words run
+words_told words (Did session item ∷ run) =
+    let done = done_by session item (record_of session run) in
+    ap (pool_from words) (events_told-append (interactions_of run) done)
+    ∙ pool_from-append words (events_told (interactions_of run)) (events_told done)
+    ∙ taken_alike session item (record_of session run) (pool_from words (events_told (interactions_of run)))
+    ∙ words_told words run
+words_told words (Observes round ∷ run) =
+    ap (pool_from words) (events_told-append (interactions_of run) (Told (Observe round) ∷ []))
+    ∙ pool_from-append words (events_told (interactions_of run)) (event_of (Observe round) ∷ [])
+    ∙ ap (λ (w : PoolWords). pool_step w (event_of (Observe round))) (words_told words run)
+    ∙ sym (pool_from-append words (pool_events_of run) (event_of (Observe round) ∷ []))
 
 -- A front of what passes in a run is a front of what passes in one that heard no more events.
 
@@ -295,10 +369,10 @@ module _ (config : Config) (done : List Interaction) where
       absurd (next_no_event event (of_next_entry config run (Came event) step) refl)
   cut (goes_on {run} {entry = Heard session item} legal step) told rest parted = cut legal told rest parted
   cut (goes_on {run} {entry = Did session item} legal step) told rest parted =
-      let outs = outs_of session item (record_of session run) in
+      let handed = done_by session item (record_of session run) in
       let told_before : IsTold run = sym (no_more session item run) ∙ told in
-      by_handed run (map Took outs) rest told_before (takes_give_none outs) (λ between is. cut legal told_before between is)
-      (split (interactions_of run) (map Took outs) done rest parted)
+      by_handed run handed rest told_before (done_gives_none session item (record_of session run)) (λ between is. cut legal told_before between is)
+      (split (interactions_of run) handed done rest parted)
   cut (goes_on {run} {entry = Observes round} legal step) told rest parted =
       let told_before : IsTold run = sym (no_more_observed round run) ∙ told in
       by_handed run (Told (Observe round) ∷ []) rest told_before refl (λ between is. cut legal told_before between is)

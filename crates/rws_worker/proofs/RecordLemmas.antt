@@ -3,7 +3,7 @@ use Rattle.std.proofs.Common.{◌≡◌, ◌==◌, ℕ, ◌<◌, Bool, true, fal
 use Rattle.std.proofs.lemmas.Bool.{ne_eqb, eq-eqb}
 use Rattle.rws_config.specs.declared.config.Config.{Config}
 use Rattle.rws_record.specs.Item.{Item}
-use Rattle.rws_record.specs.Item.Item.{Accepted, TurnsAway, Began, ClientBytes, LinkReady, LinkBytes, ClientGone, LinkLost, Routed, Comes, Connects, Takes, Floods, Puts, Starves}
+use Rattle.rws_record.specs.Item.Item.{Accepted, TurnsAway, Began, ClientBytes, LinkReady, LinkBytes, ClientGone, LinkLost, Ticks, Routed, Comes, Connects, Takes, Floods, Puts, Starves}
 use Rattle.rws_record.specs.Item.Put.{Hands, Tells, Routes, Opens, LogsInto, Sends, Drops, Closes}
 use Rattle.rws_record.specs.Values.{opens, links, contains, without}
 use Rattle.rws_record.specs.Run.{Entry, IsRun, record_of, owner, owner_by, last_link, link_by}
@@ -80,15 +80,16 @@ without_has gone link (x ∷ xs) e = by_kept (not (x == gone)) x link (without g
 
 pub still_has : (item : Item) (past : List Item) (link : ℕ) → opens item ≡ None → contains link (links (item ∷ past)) ≡ true
     → contains link (links past) ≡ true
-still_has (Accepted session scramble) past link none e = e
+still_has (Accepted session scramble reading) past link none e = e
 still_has (TurnsAway told) past link none e = e
-still_has (Began its server) past link none e = absurd cc
+still_has (Began its server reading) past link none e = absurd cc
 still_has (ClientBytes bytes) past link none e = e
 still_has (LinkReady ready) past link none e = e
 still_has (LinkBytes from bytes) past link none e = e
 still_has ClientGone past link none e = e
 still_has (LinkLost lost) past link none e = without_has lost link (links past) e
-still_has (Routed its server) past link none e = e
+still_has (Ticks reading) past link none e = e
+still_has (Routed words loads next found) past link none e = e
 still_has (Comes from said) past link none e = e
 still_has (Connects said) past link none e = e
 still_has (Takes judged number) past link none e = e
@@ -96,7 +97,7 @@ still_has (Floods bytes) past link none e = e
 still_has (Starves made number) past link none e = e
 still_has (Puts (Hands packets)) past link none e = e
 still_has (Puts (Tells number tell)) past link none e = e
-still_has (Puts (Routes login)) past link none e = e
+still_has (Puts Routes) past link none e = e
 still_has (Puts (Opens its server login)) past link none e = absurd cc
 still_has (Puts (LogsInto to packets)) past link none e = e
 still_has (Puts (Sends to purpose)) past link none e = e
@@ -150,7 +151,7 @@ next_unopened {config} {run} legal (did {session = session} {item = item} h is_n
     (step_opens_next run session (numbered_of legal) (of_next config (record_of session run) item is_next)) unopened link high
 next_unopened legal (answered h a) unopened link high = unopened link high
 next_unopened {run = run} legal (heard {session = session} {item = item} quiet none u) unopened link high =
-    opens_unopened run session item (heard_opens_next run session (first_of (each_of legal).tells u).hearable) unopened link high
+    opens_unopened run session item (heard_opens_next run session (first_of (each_of legal) (each_of legal).tells u).hearable) unopened link high
 next_unopened legal (observes quiet unasked u o) unopened link high = unopened link high
 
 pub unopened : {config : Config} {run : List Entry} → IsRun config run → Unopened run

@@ -7,7 +7,6 @@ use Rattle.rws_wire.specs.declared.drop_cause.DropCause.TheVariants.{End}
 use Rattle.rws_msgs.specs.ErrLayout.{err_bytes}
 use Rattle.rws_board.specs.declared.action.Action.{Action}
 use Rattle.rws_board.specs.declared.action.Action.TheVariants.{ToClient, Close, Drop}
-use Rattle.rws_native.specs.declared.login.Login.{Login}
 use Rattle.rws_config.specs.declared.config.Config.{Config}
 use Rattle.rws_record.specs.declared.proxy_error.ProxyError.TheVariants.{OutOfMemory}
 use Rattle.rws_record.specs.Errors.{error_of}
@@ -38,7 +37,7 @@ pub record Finished (config : Config) (session : ℕ) (start : List Item) (actio
   pub reached : List Item
   pub went_on : GoesOn config start reached
   pub rests : next config reached ≡ None
-  pub unasking : asking reached ≡ None
+  pub unasking : asking reached ≡ false
   pub over : is_over reached ≡ true
   pub given : actions_of session reached ≡ actions_of session start ++ actions
 
@@ -60,20 +59,20 @@ module _ (config : Config) (session : ℕ) where
     given = f.given ∙ ap (λ (before : List Action). before ++ actions) did ∙ append_assoc (actions_of session start) given actions;
   }
 
-  next_is : (past : List Item) (put : Put) (others : List Put) → asking past ≡ None → owed past ≡ put ∷ others
+  next_is : (past : List Item) (put : Put) (others : List Put) → asking past ≡ false → owed config past ≡ put ∷ others
       → next config past ≡ Some (Puts put)
   next_is past put others none o =
-      ap (λ (asked : Option Login). unless_asking asked (next_by (owed past) (is_over past) (due config past))) none
+      ap (λ (asked : Bool). unless_asking asked (next_by (owed config past) (is_over past) (due config past))) none
       ∙ ap (λ (list : List Put). next_by list (is_over past) (due config past)) o
 
-  at_rest : (past : List Item) → asking past ≡ None → owed past ≡ [] → is_over past ≡ true → next config past ≡ None
+  at_rest : (past : List Item) → asking past ≡ false → owed config past ≡ [] → is_over past ≡ true → next config past ≡ None
   at_rest past none o over =
-      ap (λ (asked : Option Login). unless_asking asked (next_by (owed past) (is_over past) (due config past))) none
+      ap (λ (asked : Bool). unless_asking asked (next_by (owed config past) (is_over past) (due config past))) none
       ∙ ap (λ (list : List Put). next_by list (is_over past) (due config past)) o
       ∙ ap (λ (b : Bool). next_by [] b (due config past)) over
 
   -- the links are given up, in order
-  gives_up : (list : List ℕ) (past : List Item) → asking past ≡ None → owed past ≡ map (λ link. Drops link End) list → is_over past ≡ true
+  gives_up : (list : List ℕ) (past : List Item) → asking past ≡ false → owed config past ≡ map (λ link. Drops link End) list → is_over past ≡ true
       → Finished config session past (drops list)
   gives_up [] past none o over = record {
     reached = past;
@@ -89,7 +88,7 @@ module _ (config : Config) (session : ℕ) where
       (gives_up others (Puts (Drops link End) ∷ past) none (rw o refl) over)
 
   -- the session is closed
-  closes : (past : List Item) → asking past ≡ None → owed past ≡ Closes Memory ∷ []
+  closes : (past : List Item) → asking past ≡ false → owed config past ≡ Closes Memory ∷ []
       → Finished config session past (Close session Memory ∷ drops (links past))
   closes past none o =
       then_finished past (Puts (Closes Memory) ∷ past) (Close session Memory ∷ []) (drops (links past))
@@ -107,7 +106,7 @@ module _ (config : Config) (session : ℕ) where
         → Finished config session (Starves true number ∷ past)
         (ToClient session (spelling number (err_bytes (error_of OutOfMemory))) ∷ Close session Memory ∷ drops (links past))
     made_ends past over =
-        let o : owed (Starves true number ∷ past) ≡ Tells number (Refuses OutOfMemory) ∷ Closes Memory ∷ [] = rw over refl in
+        let o : owed config (Starves true number ∷ past) ≡ Tells number (Refuses OutOfMemory) ∷ Closes Memory ∷ [] = rw over refl in
         then_finished (Starves true number ∷ past) (Puts (Tells number (Refuses OutOfMemory)) ∷ Starves true number ∷ past)
         (ToClient session (spelling number (err_bytes (error_of OutOfMemory))) ∷ [])
         (Close session Memory ∷ drops (links past))

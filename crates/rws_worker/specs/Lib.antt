@@ -1,3 +1,4 @@
+pub mod Tallies
 pub mod Stepping
 pub mod Standing
 pub mod InTurn

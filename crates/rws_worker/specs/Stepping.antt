@@ -1,5 +1,5 @@
 -- What a worker's steps give, and what they leave.
-use Rattle.std.specs.Prelude.{◌≡◌, ℕ, ◌==◌, Bool, false, List, [], ◌∷◌, ◌++◌, map, Option, Some, None}
+use Rattle.std.specs.Prelude.{◌≡◌, ℕ, ◌+◌, ◌≤◌, ◌^◌, ◌==◌, Bool, true, false, List, [], ◌∷◌, ◌++◌, map, Option, Some, None}
 use Rattle.std.specs.BTreeMap.{BTreeMap, get}
 use Rattle.std.specs.Ordering.{nat_cmp}
 use Rattle.rws_wire.specs.declared.close_reason.CloseReason.TheVariants.{Memory}
@@ -8,14 +8,20 @@ use Rattle.rws_board.specs.declared.action.Action.{Action}
 use Rattle.rws_board.specs.declared.action.Action.TheVariants.{ToClient, Close, Drop}
 use Rattle.rws_board.specs.declared.interaction.Interaction.{Interaction}
 use Rattle.rws_board.specs.declared.interaction.Interaction.TheVariants.{Took, Told}
-use Rattle.rws_pool.specs.declared.events.PoolCall.TheVariants.{Observe}
+use Rattle.rws_pool.specs.declared.events.PoolCall.TheVariants.{Observe, Route}
 use Rattle.rws_pool.specs.declared.words.Round.{Round}
 use Rattle.rws_session.specs.State.{numbered}
 use Rattle.rws_session.specs.Kept.{Kept, numbers}
 use Rattle.rws_worker.specs.declared.ahead.Ahead.{Ahead}
 use Rattle.rws_worker.specs.declared.ahead.Ahead.TheVariants.{Nothing, Going, Over, Starved, Unmade}
+use Rattle.std.specs.declared.ops.Bound.{Bound}
+use Rattle.std.specs.declared.ops.Bound.TheVariants.{Excluded, Unbounded}
+use Rattle.rws_worker.specs.declared.asker.Telling.{Telling}
+use Rattle.rws_worker.specs.declared.asker.Telling.TheVariants.{Told as AllTold, All, Above}
+use Rattle.rws_worker.specs.declared.asker.Asker.{Asker}
+use Rattle.rws_worker.specs.declared.asker.Asker.TheVariants.{Nobody, Asks, Awaits}
 use Rattle.rws_worker.specs.declared.step.Step.{Step}
-use Rattle.rws_worker.specs.declared.step.Step.TheVariants.{Idle, Act, Call, Broken}
+use Rattle.rws_worker.specs.declared.step.Step.TheVariants.{Idle, Act, Call, Broken, Spent}
 use Rattle.rws_worker.specs.declared.worker.Worker.{Worker}
 
 -- Where the outputs of the last event are
@@ -66,6 +72,35 @@ links_ahead (Starved k) = numbers k
 links_ahead (Unmade link) = link ∷ []
 links_ahead _ = []
 
+-- Who asks for the words of the pool
+
+abbrev pub asker_in : Asker → Option ℕ
+asker_in Nobody = None
+asker_in (Asks session) = Some session
+asker_in (Awaits session) = Some session
+
+-- this session does
+abbrev pub is_asking : ℕ → Asker → Bool
+is_asking session asker = is_session session (asker_in asker)
+
+-- it was told outside, so that the session is to be answered before the next step
+abbrev pub is_awaiting : Asker → Bool
+is_awaiting (Awaits session) = true
+is_awaiting _ = false
+
+-- To whom the clock's reading is still to be told: to the sessions from this number on
+
+abbrev pub from_of : Telling → Option ℕ
+from_of AllTold = None
+from_of All = Some 0
+from_of (Above session) = Some (session + 1)
+
+-- the same as a bound
+abbrev pub start_of : Telling → Option (Bound ℕ)
+start_of AllTold = None
+start_of All = Some Unbounded
+start_of (Above session) = Some (Excluded session)
+
 -- The steps that are still to be made
 
 -- a round that is to be taken in
@@ -76,8 +111,15 @@ calls_by None = []
 abbrev pub outs_ahead : Worker → List Action
 outs_ahead worker = outs_by (going_in worker.ahead) (held_outs worker.ahead) worker.sessions
 
+-- a session asks
+abbrev pub routes_by : Asker → List Step
+routes_by (Asks session) = Call (Route session) ∷ []
+routes_by _ = []
+
+-- there is a farewell, unless the session couldn't be made
 abbrev pub broken_by : Option ℕ → (farewell : List ℕ) → List Step
-broken_by (Some session) farewell = Broken session farewell ∷ []
+broken_by (Some session) (byte ∷ bytes) = Broken session (byte ∷ bytes) ∷ []
+broken_by (Some session) [] = []
 broken_by None farewell = []
 
 abbrev pub closes_by : Option ℕ → List Step
@@ -94,22 +136,18 @@ endings_by broken closing farewell links = broken_by broken farewell ++ (closes_
 abbrev pub endings : Worker → List Step
 endings worker = endings_by worker.broken worker.closing (farewell_ahead worker.ahead) (links_ahead worker.ahead)
 
--- A round is taken in first; behind all that sessions gave out comes how one of them ends.
+-- A round is taken in first; behind all that a session gave out it asks, or comes how it ends.
 abbrev pub steps_ahead : Worker → List Step
-steps_ahead worker = calls_by worker.observed ++ (map Act (outs_ahead worker) ++ endings worker)
+steps_ahead worker = calls_by worker.observed ++ (map Act (outs_ahead worker) ++ (routes_by worker.asker ++ endings worker))
 
 -- What is done for them
-
--- a farewell is sent where there is one
-abbrev pub told_by : ℕ → List ℕ → List Action
-told_by session [] = []
-told_by session (byte ∷ bytes) = ToClient session (byte ∷ bytes) ∷ []
 
 abbrev pub done_for : Step → List Interaction
 done_for Idle = []
 done_for (Act action) = Took action ∷ []
 done_for (Call call) = Told call ∷ []
-done_for (Broken session farewell) = map Took (told_by session farewell)
+done_for (Broken session farewell) = Took (ToClient session farewell) ∷ []
+done_for Spent = []
 
 abbrev pub all_done_for : List Step → List Interaction
 all_done_for [] = []
@@ -120,15 +158,36 @@ done_ahead worker = all_done_for (steps_ahead worker)
 
 -- Nothing is ahead
 
-pub record IsIdle (worker : Worker) : Type 0 where
+-- nor does a session ask
+pub record IsBare (worker : Worker) : Type 0 where
   pub nothing : worker.ahead ≡ Nothing
   pub unbroken : worker.broken ≡ None
   pub unclosed : worker.closing ≡ None
   pub unobserved : worker.observed ≡ None
+  pub unasked : worker.asker ≡ Nobody
 
--- the first of the steps ahead, which then is made; idle exactly where there is none
-abbrev pub Steps : Step → Worker → Worker → Type 0
-Steps Idle old new = (steps_ahead old ≡ []) × IsIdle new
-Steps (Act action) old new = steps_ahead old ≡ Act action ∷ steps_ahead new
-Steps (Call call) old new = steps_ahead old ≡ Call call ∷ steps_ahead new
-Steps (Broken session farewell) old new = steps_ahead old ≡ Broken session farewell ∷ steps_ahead new
+-- nor is a reading of the clock to be told on
+pub record IsIdle (worker : Worker) : Type 0 where
+  pub bare : IsBare worker
+  pub all_told : from_of worker.telling ≡ None
+
+-- the words of the pool are asked for
+abbrev pub is_route : Step → Bool
+is_route (Call (Route session)) = true
+is_route _ = false
+
+-- The first of the steps ahead is made, where there is one; or no number is left for the link that it would lead to.
+abbrev pub Fetches : Option Step → Worker → Worker → Type 0
+Fetches None old new = (steps_ahead old ≡ []) × IsBare new × (done_ahead new ≡ [])
+Fetches (Some Idle) old new = ⊥
+Fetches (Some Spent) old new = (2 ^ 64 ≤ new.last_link + 2) × (steps_ahead old ≡ steps_ahead new) × (is_awaiting new.asker ≡ false)
+Fetches (Some step) old new = (steps_ahead old ≡ step ∷ steps_ahead new) × (is_awaiting new.asker ≡ is_route step)
+
+-- the same of a session that asks
+abbrev pub Routes : Option Step → Worker → Worker → Type 0
+Routes None old new = (routes_by old.asker ≡ []) × (new ≡ old)
+Routes (Some (Call call)) old new =
+    (routes_by old.asker ≡ Call call ∷ []) × (routes_by new.asker ≡ []) × (is_awaiting new.asker ≡ is_route (Call call))
+    × (new ≡ record old { asker = new.asker; ahead = Nothing })
+Routes (Some Spent) old new = (2 ^ 64 ≤ old.last_link + 2) × (new ≡ old)
+Routes (Some _) old new = ⊥

@@ -1,5 +1,5 @@
 -- What a worker over a board answers, and what the board did by then.
-use Rattle.std.specs.Prelude.{◌≡◌, ℕ, Bool, true, false, ◌+◌, ◌^◌, ◌<◌, ◌≤◌, List, [], ◌∷◌, ◌++◌, length, None}
+use Rattle.std.specs.Prelude.{◌≡◌, ℕ, Bool, true, false, ◌+◌, ◌-◌, ◌^◌, ◌<◌, ◌≤◌, List, [], ◌∷◌, ◌++◌, length, None, Result, Ok, Err}
 use Rattle.rws_board.specs.Boards.{Standing, events_given}
 use Rattle.rws_board.specs.Boards.Standing.{Going, Ended as AtEnd, NextFailed, ActFailed}
 use Rattle.rws_board.specs.declared.board_fault.BoardFault.{BoardFault}
@@ -13,13 +13,15 @@ use Rattle.rws_pool.specs.declared.words.PoolWords.{PoolWords}
 use Rattle.rws_pool.specs.History.{event_of}
 use Rattle.rws_pool.specs.Machine.{CanStep, pool_from}
 use Rattle.rws_config.specs.declared.config.Config.{Config}
-use Rattle.rws_record.specs.Run.{Entry, IsRun, next_entry, events_of}
-use Rattle.rws_worker.specs.Stepping.{IsIdle, done_ahead}
+use Rattle.rws_record.specs.Run.{Entry, IsRun, next_entry, events_of, last_link}
+use Rattle.rws_worker.specs.Stepping.{IsIdle, done_ahead, is_awaiting}
 use Rattle.rws_worker.specs.Standing.{interactions_of, WorkerStands}
 use Rattle.rws_worker.specs.declared.work.WorkEnd.{WorkEnd}
 use Rattle.rws_worker.specs.declared.work.WorkEnd.TheVariants as ends
-use Rattle.rws_worker.specs.declared.work.Doing.{Doing}
-use Rattle.rws_worker.specs.declared.work.Doing.TheVariants.{Act, Call}
+use Rattle.rws_worker.specs.declared.work.Next.{Next}
+use Rattle.rws_worker.specs.declared.work.Next.TheVariants as nexts
+use Rattle.rws_worker.specs.declared.step.Step.{Step}
+use Rattle.rws_worker.specs.declared.step.Step.TheVariants.{Call}
 use Rattle.rws_worker.specs.declared.worker.Worker.{Worker}
 
 -- the steps of the pool that a board was told of
@@ -48,6 +50,15 @@ pub record IsFront (config : Config) (done : List Interaction) : Type 0 where
   pub rest : List Interaction
   pub parted : interactions_of run ≡ done ++ rest
 
+-- No link can be opened any more: the next one would have the number 2^64 - 1, in a run as far as it came, of which this was done.
+-- Or 2^64 - 1 things were done.
+pub data IsSpent (config : Config) (done : List Interaction) : Type 0 where
+  unnumbered : (run : List Entry) (rest : List Interaction) → IsRun config run → 2 ^ 64 ≤ last_link run + 2
+      → interactions_of run ≡ done ++ rest → IsSpent config done
+  unbegun : (run : List Entry) (event : Event) → IsRun config run → 2 ^ 64 ≤ last_link run + 2
+      → done ≡ interactions_of run ++ Gave event ∷ [] → IsSpent config done
+  countless : 2 ^ 64 - 1 ≤ length done → IsSpent config done
+
 -- How a worker's work ended, where `did` says what the board did and how it stands. What the board did is what passes
 -- in a run, or a front of it.
 pub data Works (config : Config) (did : List Interaction → Standing → Type 0) : WorkEnd → Type 0 where
@@ -62,45 +73,49 @@ pub data Works (config : Config) (did : List Interaction → Standing → Type 0
   -- the event of number 2^32 came, and isn't handled
   too_many : (run : List Entry) (event : Event) → IsResting config run → length (events_of run) + 1 ≡ 2 ^ 32
       → did (interactions_of run ++ Gave event ∷ []) Going → Works config did ends.TooMany
+  -- or nothing more can be numbered
+  spent : (done : List Interaction) → IsFront config done → IsSpent config done → did done Going → Works config did ends.TooMany
   -- memory was wanting in the board
   starved_reading : (run : List Entry) → IsResting config run → did (interactions_of run) (NextFailed faults.OutOfMemory)
       → Works config did ends.OutOfMemory
   starved_acting : (done : List Interaction) → IsFront config done → did done (ActFailed faults.OutOfMemory)
       → Works config did ends.OutOfMemory
 
--- Between two events: all that came of those before is done.
-pub record IsUnderway (config : Config) (did : List Interaction → Standing → Type 0) (worker : Worker) (events : ℕ) : Type 0 where
+-- In the middle of an event: what is ahead of the worker is left of what passes in a run, and so many things were done since the
+-- event came, or more.
+pub record IsUnderway (config : Config) (did : List Interaction → Standing → Type 0) (worker : Worker) (events things : ℕ) : Type 0 where
   pub run : List Entry
   pub stands : WorkerStands config worker run
-  pub idle : IsIdle worker
+  pub answered : is_awaiting worker.asker ≡ false
   pub counted : events ≡ length (events_of run)
   pub few : events < 2 ^ 32
-  -- an event opens one link at most
-  pub opened : worker.last_link ≤ events
   pub told : events_given (interactions_of run) ≡ events_of run
-  pub done_so_far : did (interactions_of run) Going
-
--- all that was ahead of a worker was done behind what was done before
-pub record TakesAll (did : List Interaction → Standing → Type 0) (before : List Interaction) (old new : Worker) : Type 0 where
-  pub all_done : did (before ++ done_ahead old) Going
-  pub idle : IsIdle new
-
--- a front of it was done, or tried
-pub record TakesSome (did : List Interaction → Standing → Type 0) (before : List Interaction) (old : Worker) (fault : BoardFault) : Type 0 where
   pub done : List Interaction
-  pub rest : List Interaction
-  pub parted : done_ahead old ≡ done ++ rest
-  pub some_done : did (before ++ done) (ActFailed fault)
+  pub many : things ≤ length done
+  pub parted : interactions_of run ≡ done ++ done_ahead worker
+  pub done_so_far : did done Going
 
--- what a board does for one thing that is to be done
-abbrev pub handed : Doing → Interaction
-handed (Act action) = Took action
-handed (Call call) = Told call
+-- how it stands when something more was done
+abbrev pub GoesSo : Config → (did : List Interaction → Standing → Type 0) → Worker → (events things : ℕ) → Next → Type 0
+GoesSo config did worker events things nexts.Goes = IsUnderway config did worker events (things + 1)
+GoesSo config did worker events things nexts.Rests = IsUnderway config did worker events 0 × IsIdle worker
+GoesSo config did worker events things nexts.Spent = Works config did ends.TooMany
+
+-- where the board failed, the work ends so
+abbrev pub end_by : BoardFault → WorkEnd
+end_by faults.Failed = ends.BoardFailed
+end_by faults.OutOfMemory = ends.OutOfMemory
+
+-- all that came of an event was done, or it was too much, or the board failed
+abbrev pub DoesAll : Config → (did : List Interaction → Standing → Type 0) → Worker → (events : ℕ) → Result Bool BoardFault → Type 0
+DoesAll config did worker events (Ok true) = IsUnderway config did worker events 0 × IsIdle worker
+DoesAll config did worker events (Ok false) = Works config did ends.TooMany
+DoesAll config did worker events (Err fault) = Works config did (end_by fault)
 
 -- a step of the pool that is to be done can be taken
-abbrev pub CanBeDone : ℕ → Doing → Type 0
-CanBeDone domain (Act action) = Unit {0}
+abbrev pub CanBeDone : ℕ → Step → Type 0
 CanBeDone domain (Call call) = CanStep domain (event_of call)
+CanBeDone domain _ = Unit {0}
 
 -- it is the end
 abbrev pub is_end : Event → Bool

@@ -1,5 +1,6 @@
 //! Whose outputs came of the last event, and what is left of a session to which memory was wanting.
 ghost use Rattle.std.specs.Prelude.{◌≡◌, ◌∷◌, ℕ, [], MatchOption};
+ghost use Rattle.rws_worker.specs.declared.ahead.Ahead.TheVariants.{Nothing};
 ghost use Rattle.rws_worker.specs.Stepping.{farewell_ahead, going_in, held_outs, links_ahead, over_in, starved_in};
 
 use rws_board::Action;
@@ -62,6 +63,7 @@ impl Ahead {
         ensures farewell { farewell_ahead self.new ≡ farewell_ahead self.old }
         ensures links { links_ahead self.new ≡ links_ahead self.old }
         ensures going { going_in self.new ≡ going_in self.old }
+        ensures nothing { self.old ≡ Nothing → self.new ≡ Nothing }
     {
         match self {
             Ahead::Over(session) => session.next_out(),
@@ -78,6 +80,7 @@ impl Ahead {
         ensures outs { held_outs self.new ≡ held_outs self.old }
         ensures links { links_ahead self.new ≡ links_ahead self.old }
         ensures going { going_in self.new ≡ going_in self.old }
+        ensures nothing { self.old ≡ Nothing → self.new ≡ Nothing }
     {
         match self {
             Ahead::Starved(session) => session.farewell(),
@@ -93,6 +96,7 @@ impl Ahead {
         ensures taken { MatchOption result ((links_ahead self.old ≡ []) × (links_ahead self.new ≡ [])) (λ link. links_ahead self.old ≡ link ∷ links_ahead self.new) }
         ensures outs { held_outs self.new ≡ held_outs self.old }
         ensures going { going_in self.new ≡ going_in self.old }
+        ensures nothing { self.old ≡ Nothing → self.new ≡ Nothing }
     {
         match self {
             Ahead::Starved(session) => session.next_link(),

@@ -5,7 +5,9 @@
 #![tactic(auto)]
 
 mod ahead;
+mod asker;
 mod step;
+mod tally;
 mod work;
 mod worker;
 

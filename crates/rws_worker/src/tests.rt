@@ -2,6 +2,7 @@
 use super::*;
 use rws_board::{Action, CallList, Event, EventList, Interaction, ListBoard};
 use rws_pool::{PoolCall, PoolWords, Round, Seen, State};
+use rws_select::{Load, Selector};
 use rws_wire::Text;
 use std::alloc::{AllocError, Global};
 use std::test::Fail;
@@ -23,9 +24,11 @@ fn a_ping_is_answered(rt: HostRuntime) -> Result<(), Fail> {
         bytes: Text::from_slice(alloc, b"\x01\0\0\0\x0e")?,
     })?;
     let mut board = ListBoard::new(alloc, events, CallList::from_slice(alloc, &[])?)?;
-    let mut words = PoolWords::new(0);
+    let mut words = PoolWords::new(config.gtid_domain);
+    let selector = Selector::new(|load: &Load| u64::from(load.pending) * 65536
+        + u64::from(load.links));
     assert_eq!(rt;
-        work_here(alloc, &mut board, &mut words, &config),
+        work_here(alloc, &mut board, &mut words, &config, &selector),
         WorkEnd::Ended
     );
     let answered = match board.interactions() {
@@ -65,8 +68,10 @@ fn rounds_of_three_servers_are_taken_in(rt: HostRuntime) -> Result<(), Fail> {
     let alloc = rt.alloc();
     let config = rws_config::built_in(alloc)?;
     let mut board = rounds(alloc)?;
-    let mut words = PoolWords::new(0);
-    work_here(alloc, &mut board, &mut words, &config);
+    let mut words = PoolWords::new(config.gtid_domain);
+    let selector = Selector::new(|load: &Load| u64::from(load.pending) * 65536
+        + u64::from(load.links));
+    work_here(alloc, &mut board, &mut words, &config, &selector);
     let told = match board.interactions() {
         [_, Interaction::Told(PoolCall::Observe { round }), _] => *round == found(0),
         _ => false,
@@ -78,8 +83,10 @@ fn rounds_of_three_servers_are_taken_in(rt: HostRuntime) -> Result<(), Fail> {
 
 #[test]
 fn a_worker_without_sessions_is_idle(rt: HostRuntime) -> Result<(), Fail> {
-    let mut worker = Worker::new(rt.alloc());
+    let alloc = rt.alloc();
+    let config = rws_config::built_in(alloc)?;
+    let mut worker = Worker::new(alloc);
     assert!(rt; !worker.is_spent());
-    assert_eq!(rt; worker.step(), Step::Idle);
+    assert_eq!(rt; worker.step(&config), Step::Idle);
     Ok(())
 }

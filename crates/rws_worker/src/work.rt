@@ -3,18 +3,22 @@ ghost use Rattle.std.specs.Prelude.{◌≡◌, ◌≤◌, ◌+◌, ◌∷◌, �
 ghost use Rattle.rws_board.specs.Boards.Standing.{Going, ActFailed};
 ghost use Rattle.rws_board.specs.Faults.{Rises};
 ghost use Rattle.rws_board.specs.declared.interaction.Interaction.{Interaction};
-ghost use Rattle.rws_config.specs.declared.config.Config.{Config};
-ghost use Rattle.rws_record.specs.Run.{Entry};
-ghost use Rattle.rws_worker.specs.Standing.{WorkerStands};
+ghost use Rattle.rws_board.specs.declared.interaction.Interaction.TheVariants.{Told, Took};
+ghost use Rattle.rws_config.specs.Allowed.{IsAllowed};
 ghost use Rattle.rws_pool.specs.declared.words.PoolWords.{PoolWords};
-ghost use Rattle.rws_worker.specs.Stepping.{IsIdle, done_ahead};
-ghost use Rattle.rws_worker.specs.Working.{CanBeDone, IsUnderway, TakesAll, TakesSome, WithWords, Works, handed, is_end};
+ghost use Rattle.rws_pool.specs.History.{event_of};
+ghost use Rattle.rws_pool.specs.Machine.{CanStep, new_words, pool_step};
+ghost use Rattle.rws_select.specs.Choice.{HasScorer};
+ghost use Rattle.rws_worker.specs.Stepping.{IsIdle};
+ghost use Rattle.rws_worker.specs.Working.{DoesAll, GoesSo, IsUnderway, WithWords, Works, end_by, is_end};
+ghost use Rattle.rws_worker.specs.declared.work.Next.TheVariants as Next;
 ghost use Rattle.rws_worker.specs.declared.work.WorkEnd.TheVariants.{BoardFailed};
 
 use crate::{Step, Worker};
 use rws_board::{Action, Board, BoardFault, Event};
 use rws_config::Config;
 use rws_pool::{PoolCall, PoolWords};
+use rws_select::{Load, Selector};
 use std::alloc::Global;
 
 /// How a worker's work ended.
@@ -24,29 +28,35 @@ pub enum WorkEnd {
     Ended,
     /// A call of the board failed, and its count of faults rose.
     BoardFailed,
-    /// The event of number 4,294,967,296 came, the end not counted. It isn't handled.
+    /// The event of number 4,294,967,296 came, the end not counted, and isn't handled; or no number was left for a link.
     TooMany,
     /// There was no memory in the board.
     OutOfMemory,
 }
 
-/// One thing that is to be done outside.
-pub(crate) enum Doing {
-    /// The board is to take this action.
-    Act(Action),
-    /// The words are to take this step, and the board is to be told of it.
-    Call(PoolCall),
+/// How a worker's work goes on.
+pub(crate) enum Next {
+    /// Something was done.
+    Goes,
+    /// All that came of the last event is done.
+    Rests,
+    /// No link can be opened any more.
+    Spent,
 }
 
 /// Runs a worker over a board until the board's end: it takes the board's next event, does all that comes of it, and then
-/// asks for the next one. A step of the pool is taken by the words, and then the board is told. It waits for nobody, and
-/// always returns.
-pub fn work_here<B: Board>(
+/// asks for the next one. A step of the pool is taken by the words, and then the board is told; a session that asked for them is
+/// answered by them. It waits for nobody, and always returns.
+pub fn work_here<B: Board, F: Fn(&Load) -> u64 + Sync>(
     alloc: Global,
     board: &mut B,
     words: &mut PoolWords,
     config: &Config,
+    selector: &Selector<F>,
 ) -> WorkEnd
+    requires allowed { IsAllowed config.now }
+    requires words { words.old ≡ new_words config.now.gtid_domain }
+    requires scorer { HasScorer F.Fn selector.now }
     ensures works { Works config.now (WithWords (λ interactions standing. B.did board.old board.new interactions standing) words.old words.new) result }
     ensures counts { B.faults board.old ≤ B.faults board.new }
     ensures failed { result ≡ BoardFailed → Rises (B.faults board.old) (B.faults board.new) }
@@ -54,24 +64,27 @@ pub fn work_here<B: Board>(
     let mut worker = Worker::new(alloc);
     let mut events = 0;
     'events: loop {
-        if let Some(end) = handle_next(&mut worker, board, words, config, &mut events) {
+        if let Some(end) = handle_next(&mut worker, board, words, config, selector, &mut events) {
             return end;
         }
     }
 }
 
 /// Takes the next event and does all that comes of it. `events` were taken before.
-fn handle_next<B: Board>(
+fn handle_next<B: Board, F: Fn(&Load) -> u64 + Sync>(
     worker: &mut Worker,
     board: &mut B,
     words: &mut PoolWords,
     config: &Config,
+    selector: &Selector<F>,
     events: &mut u32,
 ) -> Option<WorkEnd>
-    requires { (start : B) × (first : PoolWords)
-        × IsUnderway config.now (WithWords (B.did start board.old) first words.old) worker.old events.old }
-    ensures goes { (start : B) (first : PoolWords) → IsUnderway config.now (WithWords (B.did start board.old) first words.old) worker.old events.old
-        → MatchOption result (IsUnderway config.now (WithWords (B.did start board.new) first words.new) worker.new events.new)
+    requires allowed { IsAllowed config.now }
+    requires scorer { HasScorer F.Fn selector.now }
+    requires idle { IsIdle worker.old }
+    ensures goes { (start : B) (first : PoolWords) → first ≡ new_words config.now.gtid_domain
+        → IsUnderway config.now (WithWords (B.did start board.old) first words.old) worker.old events.old 0
+        → MatchOption result (IsUnderway config.now (WithWords (B.did start board.new) first words.new) worker.new events.new 0 × IsIdle worker.new)
         (λ end. Works config.now (WithWords (B.did start board.new) first words.new) end) }
     ensures counted { MatchOption result (events.new ≡ events.old + 1) (λ _. events.new ≡ events.new) }
     ensures counts { B.faults board.old ≤ B.faults board.new }
@@ -90,8 +103,12 @@ fn handle_next<B: Board>(
     }
     *events += 1;
     worker.give(event, config);
-    match do_all(worker, board, words) {
-        Ok(()) => None,
+    if worker.is_spent() {
+        return Some(WorkEnd::TooMany);
+    }
+    match do_all(worker, board, words, config, selector) {
+        Ok(true) => None,
+        Ok(false) => Some(WorkEnd::TooMany),
         Err(BoardFault::Failed) => Some(WorkEnd::BoardFailed),
         Err(BoardFault::OutOfMemory) => Some(WorkEnd::OutOfMemory),
     }
@@ -115,71 +132,100 @@ fn is_end(event: &Event) -> bool
     }
 }
 
-/// Does all that came of the last event, in order.
-fn do_all<B: Board>(
+/// Does all that comes of the last event, in order; false where that is too much.
+fn do_all<B: Board, F: Fn(&Load) -> u64 + Sync>(
     worker: &mut Worker,
     board: &mut B,
     words: &mut PoolWords,
-) -> Result<(), BoardFault>
-    ensures acts { (start : B) (first : PoolWords) (before : List Interaction)
-        → WithWords (B.did start board.old) first words.old before Going → MatchResult result
-        (λ _. TakesAll (WithWords (B.did start board.new) first words.new) before worker.old worker.new)
-        (λ fault. TakesSome (WithWords (B.did start board.new) first words.new) before worker.old fault) }
-    ensures stands { (config : Config) (run : List Entry) → WorkerStands config worker.old run
-        → WorkerStands config worker.new run }
-    ensures links { worker.new.last_link ≡ worker.old.last_link }
+    config: &Config,
+    selector: &Selector<F>,
+) -> Result<bool, BoardFault>
+    requires scorer { HasScorer F.Fn selector.now }
+    ensures acts { (start : B) (first : PoolWords) (events : ℕ) → first ≡ new_words config.now.gtid_domain
+        → IsUnderway config.now (WithWords (B.did start board.old) first words.old) worker.old events 0
+        → DoesAll config.now (WithWords (B.did start board.new) first words.new) worker.new events result }
     ensures counts { B.faults board.old ≤ B.faults board.new }
     ensures failed { IsErrOf result BoardFault.Failed → Rises (B.faults board.old) (B.faults board.new) }
 {
-    while let Some(doing) = next_doing(worker) {
-        match perform(doing, board, words) {
-            Ok(()) => {}
+    for _ in 0..u64::MAX {
+        match do_next(worker, board, words, config, selector) {
+            Ok(Next::Goes) => {}
+            Ok(Next::Rests) => return Ok(true),
+            Ok(Next::Spent) => return Ok(false),
             Err(fault) => return Err(fault),
         }
     }
-    Ok(())
+    Ok(false)
 }
 
-/// Does one thing.
-fn perform<B: Board>(doing: Doing, board: &mut B, words: &mut PoolWords) -> Result<(), BoardFault>
-    requires can { CanBeDone words.old.last.domain doing }
-    ensures did { (start : B) (first : PoolWords) (before : List Interaction)
-        → WithWords (B.did start board.old) first words.old before Going → MatchResult result
-        (λ _. WithWords (B.did start board.new) first words.new (before ++ handed doing ∷ []) Going)
-        (λ fault. WithWords (B.did start board.new) first words.new (before ++ handed doing ∷ []) (ActFailed fault)) }
+/// Does the next thing.
+fn do_next<B: Board, F: Fn(&Load) -> u64 + Sync>(
+    worker: &mut Worker,
+    board: &mut B,
+    words: &mut PoolWords,
+    config: &Config,
+    selector: &Selector<F>,
+) -> Result<Next, BoardFault>
+    requires scorer { HasScorer F.Fn selector.now }
+    ensures acts { (start : B) (first : PoolWords) (events things : ℕ) → first ≡ new_words config.now.gtid_domain
+        → IsUnderway config.now (WithWords (B.did start board.old) first words.old) worker.old events things → MatchResult result
+        (λ next. GoesSo config.now (WithWords (B.did start board.new) first words.new) worker.new events things next)
+        (λ fault. Works config.now (WithWords (B.did start board.new) first words.new) (end_by fault)) }
     ensures counts { B.faults board.old ≤ B.faults board.new }
     ensures failed { IsErrOf result BoardFault.Failed → Rises (B.faults board.old) (B.faults board.new) }
 {
-    match doing {
-        Doing::Act(action) => board.act(action),
-        Doing::Call(call) => {
-            words.apply(&call.event());
-            board.tell(&call)
-        }
+    match worker.step(config) {
+        Step::Idle => Ok(Next::Rests),
+        Step::Spent => Ok(Next::Spent),
+        Step::Act(action) => act(action, board),
+        Step::Broken { session, farewell } => act(
+            Action::ToClient {
+                session,
+                bytes: farewell,
+            },
+            board,
+        ),
+        Step::Call(call) => match call_out(&call, board, words) {
+            Ok(next) => {
+                worker.answer(words, config, selector);
+                Ok(next)
+            }
+            Err(fault) => Err(fault),
+        },
     }
 }
 
-/// The next thing to be done of what came of the last event. A farewell is sent, where there is one.
-fn next_doing(worker: &mut Worker) -> Option<Doing>
-    ensures next { MatchOption result ((done_ahead worker.old ≡ []) × IsIdle worker.new)
-        (λ doing. done_ahead worker.old ≡ handed doing ∷ done_ahead worker.new) }
-    ensures can { (domain : ℕ) → MatchOption result (Unit {0}) (λ doing. CanBeDone domain doing) }
-    ensures stands { (config : Config) (run : List Entry) → WorkerStands config worker.old run
-        → WorkerStands config worker.new run }
-    ensures links { worker.new.last_link ≡ worker.old.last_link }
+/// The board takes an action.
+fn act<B: Board>(action: Action, board: &mut B) -> Result<Next, BoardFault>
+    ensures did { (start : B) (before : List Interaction) → B.did start board.old before Going → MatchResult result
+        (λ next. B.did start board.new (before ++ Took action ∷ []) Going × (next ≡ Next.Goes))
+        (λ fault. B.did start board.new (before ++ Took action ∷ []) (ActFailed fault)) }
+    ensures counts { B.faults board.old ≤ B.faults board.new }
+    ensures failed { IsErrOf result BoardFault.Failed → Rises (B.faults board.old) (B.faults board.new) }
 {
-    match worker.step() {
-        Step::Idle => None,
-        Step::Act(action) => Some(Doing::Act(action)),
-        Step::Call(call) => Some(Doing::Call(call)),
-        Step::Broken { session, farewell } => {
-            if farewell.is_empty() {
-                return next_doing(worker);
-            }
-            Some(Doing::Act(Action::ToClient {
-                session,
-                bytes: farewell,
-            }))
-        }
+    match board.act(action) {
+        Ok(()) => Ok(Next::Goes),
+        Err(fault) => Err(fault),
+    }
+}
+
+/// The words take a step of the pool, and the board is told of it.
+fn call_out<B: Board>(
+    call: &PoolCall,
+    board: &mut B,
+    words: &mut PoolWords,
+) -> Result<Next, BoardFault>
+    requires can { CanStep words.old.last.domain (event_of call.now) }
+    ensures did { (start : B) (before : List Interaction) → B.did start board.old before Going → MatchResult result
+        (λ next. B.did start board.new (before ++ Told call.now ∷ []) Going × (next ≡ Next.Goes))
+        (λ fault. B.did start board.new (before ++ Told call.now ∷ []) (ActFailed fault)) }
+    ensures step { words.new ≡ pool_step words.old (event_of call.now) }
+    ensures counts { B.faults board.old ≤ B.faults board.new }
+    ensures failed { IsErrOf result BoardFault.Failed → Rises (B.faults board.old) (B.faults board.new) }
+{
+    words.apply(&call.event());
+    match board.tell(call) {
+        Ok(()) => Ok(Next::Goes),
+        Err(fault) => Err(fault),
     }
 }

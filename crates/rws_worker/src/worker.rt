@@ -1,23 +1,30 @@
 //! The sessions of a worker by their numbers, and which of them each link belongs to.
 //!
-//! Between two events each session that isn't over rests and has nothing to be fetched; a session that is over is
+//! Between two turns each session that isn't over rests, or asks for the words of the pool; a session that is over is
 //! forgotten. An owner may be there for a link that its session has given up since: then the session hears nothing.
-ghost use Rattle.std.specs.Prelude.{◌≡◌, ◌∷◌, ◌≤◌, ◌<◌, ◌+◌, ◌-◌, ◌^◌, ◌==◌, List, [], MatchOption, None};
-ghost use Rattle.rws_board.specs.declared.action.Action.TheVariants as actions;
+ghost use Rattle.std.specs.Prelude.{◌≡◌, ◌∷◌, ◌≤◌, ◌+◌, ◌^◌, ℕ, List, [], MatchOption, None, true, false, not};
+ghost use Rattle.rws_board.specs.declared.event.Event.{Event};
+ghost use Rattle.rws_config.specs.Allowed.{IsAllowed};
 ghost use Rattle.rws_config.specs.declared.config.Config.{Config};
 ghost use Rattle.rws_record.specs.Run.{Entry};
-ghost use Rattle.rws_worker.specs.Standing.{Advances, WorkerStands};
-ghost use Rattle.rws_worker.specs.Stepping.{IsIdle, Steps, endings, outs_ahead};
+ghost use Rattle.rws_worker.specs.Standing.{GivesOr, Steps, WorkerStands};
+ghost use Rattle.rws_worker.specs.Stepping.{Fetches, IsIdle, is_awaiting};
+ghost use Rattle.rws_worker.specs.Working.{CanBeDone};
 
+mod answering;
 mod beginning;
+mod counting;
 mod observing;
 mod settling;
 mod stepping;
 mod telling;
+mod ticking;
 
 use crate::Step;
 use crate::ahead::Ahead;
-use rws_board::{Action, Event};
+use crate::asker::{Asker, Telling};
+use crate::tally::{NONE, Tally};
+use rws_board::Event;
 use rws_config::Config;
 use rws_pool::{PoolCall, Round};
 use rws_session::{Session, SessionInput};
@@ -34,7 +41,11 @@ pub struct Worker {
     last_link: u64,
     /// The greatest number with which a session was to begin, or 0.
     greatest: u32,
-    /// Where what came of the last event is fetched from.
+    /// What the clock showed last, in milliseconds, or 0.
+    now_ms: u64,
+    /// What is open to each server.
+    tallies: [Tally; 7],
+    /// Where what came of the last turn is fetched from.
     ahead: Ahead,
     /// A session to which memory was wanting, until that is told,
     broken: Option<u32>,
@@ -42,6 +53,12 @@ pub struct Worker {
     closing: Option<u32>,
     /// A round of the monitor that is still to be taken in.
     observed: Option<Round>,
+    /// The session that asks for the words of the pool.
+    asker: Asker,
+    /// To which sessions the clock's reading is still to be told.
+    telling: Telling,
+    /// A session was to begin, and no link can be opened any more.
+    spent: bool,
 }
 
 impl Worker {
@@ -49,7 +66,6 @@ impl Worker {
     pub fn new(alloc: Global) -> Worker
         ensures stands { (config : Config) → WorkerStands config result [] }
         ensures idle { IsIdle result }
-        ensures links { result.last_link ≡ 0 }
     {
         Worker {
             alloc,
@@ -57,79 +73,109 @@ impl Worker {
             owners: BTreeMap::new(alloc),
             last_link: 0,
             greatest: 0,
+            now_ms: 0,
+            tallies: [NONE; 7],
             ahead: Ahead::Nothing,
             broken: None,
             closing: None,
             observed: None,
+            asker: Asker::Nobody,
+            telling: Telling::Told,
+            spent: false,
         }
     }
 
-    /// No link can be opened any more, for there is no further number.
+    /// A session was to begin, and no link can be opened any more, for there is no further number. Each step says so.
     pub fn is_spent(&self) -> bool
-        ensures { result ≡ (self.now.last_link == 2 ^ 64 - 1) }
+        ensures { result ≡ self.now.spent }
     {
-        self.last_link == u64::MAX
+        self.spent
     }
 
     /// Gives the worker an event, once a step was idle. Where memory is wanting for it the steps say so; it costs the session
     /// that the event is for.
     pub fn give(&mut self, event: Event, config: &Config)
         requires idle { IsIdle self.old }
-        requires unspent { self.old.last_link < 2 ^ 64 - 1 }
-        ensures advances { (run : List Entry) → WorkerStands config.now self.old run → Advances config.now run event self.new }
-        ensures links { self.new.last_link ≤ self.old.last_link + 1 }
+        requires allowed { IsAllowed config.now }
+        ensures advances { (run : List Entry) → WorkerStands config.now self.old run → GivesOr config.now run event self.old self.new }
     {
         match event {
             Event::Accept { session, scramble } => self.accept(session, scramble, config),
             Event::Begin { session, server } => self.begin(session, server, config),
-            Event::ClientBytes { session, bytes } => self.tell(
+            Event::ClientBytes { session, bytes } => self.hear(
                 session,
                 SessionInput::Client(bytes),
                 config,
             ),
-            Event::ClientGone { session } => self.tell(session, SessionInput::ClientGone, config),
-            Event::LinkReady { link } => self.tell_on(link, SessionInput::Ready { link }, config),
-            Event::LinkBytes { link, bytes } => self.tell_on(
+            Event::ClientGone { session } => self.hear(session, SessionInput::ClientGone, config),
+            Event::LinkReady { link } => self.hear_on(link, SessionInput::Ready { link }, config),
+            Event::LinkBytes { link, bytes } => self.hear_on(
                 link,
                 SessionInput::Link { link, bytes },
                 config,
             ),
-            Event::LinkGone { link } => self.tell_on(link, SessionInput::LinkGone { link }, config),
+            Event::LinkGone { link } => self.hear_on(link, SessionInput::LinkGone { link }, config),
             Event::Observed { round } => self.observe(round, config),
-            Event::Clock { now_ms: _ } => {}
+            Event::Clock { now_ms } => self.read_clock(now_ms),
             Event::End => {}
         }
     }
 
-    /// The next thing that came of the last event. It takes no memory.
-    pub fn step(&mut self) -> Step
-        ensures steps { Steps result self.old self.new }
+    /// The next thing that came of the last event. Where a reading of the clock is told to the open sessions, each of them hears
+    /// it when all is given out that came before. It isn't called between a Route and its answer.
+    pub fn step(&mut self, config: &Config) -> Step
+        ensures steps { (run : List Entry) → WorkerStands config.now self.old run → is_awaiting self.old.asker ≡ false
+            → Steps config.now run result self.old self.new }
+        ensures can { (domain : ℕ) → CanBeDone domain result }
+    {
+        if self.spent {
+            return Step::Spent;
+        }
+        if let Some(step) = self.fetch() {
+            return step;
+        }
+        if !self.tell_next(config) {
+            return Step::Idle;
+        }
+        self.step(config)
+    }
+
+    /// The next thing that came of the last turn, or of a round of the monitor.
+    fn fetch(&mut self) -> Option<Step>
+        ensures fetches { (config : Config) (run : List Entry) → WorkerStands config self.old run → is_awaiting self.old.asker ≡ false
+            → Fetches result self.old self.new }
         ensures stands { (config : Config) (run : List Entry) → WorkerStands config self.old run
             → WorkerStands config self.new run }
-        ensures links { self.new.last_link ≡ self.old.last_link }
+        ensures can { (domain : ℕ) → MatchOption result (Unit {0}) (λ step. CanBeDone domain step) }
+        ensures telling { self.new.telling ≡ self.old.telling }
     {
         match self.next_round() {
-            Some(round) => Step::Call(PoolCall::Observe { round }),
+            Some(round) => Some(Step::Call(PoolCall::Observe { round })),
             None => self.next_of_sessions(),
         }
     }
 
-    /// The next thing that came of the last event, where no round is to be taken in.
-    fn next_of_sessions(&mut self) -> Step
+    /// The same where no round is to be taken in.
+    fn next_of_sessions(&mut self) -> Option<Step>
         requires unobserved { self.old.observed ≡ None }
-        ensures steps { Steps result self.old self.new }
+        ensures fetches { (config : Config) (run : List Entry) → WorkerStands config self.old run → is_awaiting self.old.asker ≡ false
+            → Fetches result self.old self.new }
         ensures stands { (config : Config) (run : List Entry) → WorkerStands config self.old run
             → WorkerStands config self.new run }
-        ensures links { self.new.last_link ≡ self.old.last_link }
+        ensures can { (domain : ℕ) → MatchOption result (Unit {0}) (λ step. CanBeDone domain step) }
+        ensures telling { self.new.telling ≡ self.old.telling }
     {
         if let Some(action) = self.next_out() {
             self.release_dropped(&action);
-            return Step::Act(action);
+            return Some(Step::Act(action));
+        }
+        if let Some(step) = self.next_route() {
+            return Some(step);
         }
         if let Some(step) = self.next_ending() {
-            return step;
+            return Some(step);
         }
-        self.ahead = Ahead::Nothing;
-        Step::Idle
+        self.clear();
+        None
     }
 }

@@ -1,15 +1,17 @@
 //! How a session begins, or its client is turned away.
-ghost use Rattle.std.specs.Prelude.{◌≡◌, ◌<◌, ◌≤◌, ◌+◌, ◌-◌, ◌^◌, ℕ, List, IfOk, OnErr, OnOk, Some};
+ghost use Rattle.std.specs.Prelude.{◌≡◌, ◌<◌, ◌≤◌, ◌+◌, ◌^◌, ℕ, List, IfOk, OnErr, OnOk, Some};
 ghost use Rattle.std.specs.BTreeMap.{get};
 ghost use Rattle.std.specs.Ordering.{nat_cmp};
 ghost use Rattle.rws_board.specs.declared.event.Event.{Event};
 ghost use Rattle.rws_board.specs.declared.event.Event.TheVariants as events;
+ghost use Rattle.rws_config.specs.Allowed.{IsAllowed};
 ghost use Rattle.rws_config.specs.declared.config.Config.{Config};
 ghost use Rattle.rws_record.specs.Item.{Item};
 ghost use Rattle.rws_record.specs.Item.Item.{Began, TurnsAway};
 ghost use Rattle.rws_record.specs.Run.{Entry, greatest, has_room, last_link};
 ghost use Rattle.rws_session.specs.Kept.{Starts};
-ghost use Rattle.rws_worker.specs.Standing.{Advances, WorkerStands};
+ghost use Rattle.rws_worker.specs.InTurn.{IsBetween};
+ghost use Rattle.rws_worker.specs.Standing.{Gives, GivesOr, WorkerStands};
 ghost use Rattle.rws_worker.specs.Stepping.{IsIdle};
 ghost use Rattle.rws_worker.specs.Telling.{Begins, BeginsWithout, Places, Seats};
 
@@ -19,22 +21,23 @@ use rws_config::Config;
 use rws_session::Session;
 use std::alloc::AllocError;
 
+/// From this number on none is left for a further link.
+pub(super) const LAST_LINK: u64 = u64::MAX - 1;
+
 impl Worker {
     /// A client connects: a session begins that is to greet it, where its number is above all before. Where there are as many as
     /// may be, the client is turned away.
     pub(super) fn accept(&mut self, session: u32, scramble: [u8; 20], config: &Config)
         requires idle { IsIdle self.old }
-        requires unspent { self.old.last_link < 2 ^ 64 - 1 }
         ensures advances { (run : List Entry) → WorkerStands config.now self.old run
-            → Advances config.now run (events.Accept session scramble) self.new }
-        ensures links { self.new.last_link ≤ self.old.last_link + 1 }
+            → Gives config.now run (events.Accept session scramble) self.new }
     {
         if session <= self.greatest {
             return;
         }
         self.greatest = session;
         if self.has_room(config) {
-            let made = Session::accept(self.alloc, session, scramble, config);
+            let made = Session::accept(self.alloc, session, scramble, self.now_ms, config);
             self.begin_without(session, made, config);
         } else {
             self.turn_away(session, true, config);
@@ -45,10 +48,24 @@ impl Worker {
     /// aren't as many as may be.
     pub(super) fn begin(&mut self, session: u32, server: u8, config: &Config)
         requires idle { IsIdle self.old }
-        requires unspent { self.old.last_link < 2 ^ 64 - 1 }
+        requires allowed { IsAllowed config.now }
         ensures advances { (run : List Entry) → WorkerStands config.now self.old run
-            → Advances config.now run (events.Begin session server) self.new }
-        ensures links { self.new.last_link ≤ self.old.last_link + 1 }
+            → GivesOr config.now run (events.Begin session server) self.old self.new }
+    {
+        if self.last_link >= LAST_LINK {
+            self.spent = true;
+            return;
+        }
+        self.begin_numbered(session, server, config);
+    }
+
+    /// The same, where a number is left for the session's link.
+    fn begin_numbered(&mut self, session: u32, server: u8, config: &Config)
+        requires idle { IsIdle self.old }
+        requires allowed { IsAllowed config.now }
+        requires numbers { self.old.last_link + 2 < 2 ^ 64 }
+        ensures advances { (run : List Entry) → WorkerStands config.now self.old run
+            → Gives config.now run (events.Begin session server) self.new }
     {
         if session <= self.greatest {
             return;
@@ -66,7 +83,7 @@ impl Worker {
 
     /// A further session may be open.
     fn has_room(&self, config: &Config) -> bool
-        ensures { (run : List Entry) → WorkerStands config.now (record self.now { greatest = greatest run }) run
+        ensures { (run : List Entry) → IsBetween config.now (record self.now { greatest = greatest run }) run
             → result ≡ has_room config.now run }
     {
         (self.sessions.len() as u64) < u64::from(config.sessions)
@@ -74,11 +91,8 @@ impl Worker {
 
     /// A session that is closed at once; a client that connected is told so.
     fn turn_away(&mut self, session: u32, told: bool, config: &Config)
-        requires idle { IsIdle self.old }
-        requires unspent { self.old.last_link < 2 ^ 64 - 1 }
         ensures advances { (run : List Entry) (event : Event) → Begins config.now run event session (TurnsAway told) self.old
-            → Advances config.now run event self.new }
-        ensures links { self.new.last_link ≤ self.old.last_link + 1 }
+            → Gives config.now run event self.new }
     {
         let made = Session::turn_away(self.alloc, session, told, config);
         self.begin_without(session, made, config);
@@ -86,16 +100,13 @@ impl Worker {
 
     /// A session that was made without a link goes on from its beginning.
     fn begin_without(&mut self, session: u32, made: Result<Session, AllocError>, config: &Config)
-        requires idle { IsIdle self.old }
-        requires unspent { self.old.last_link < 2 ^ 64 - 1 }
         ensures advances { (run : List Entry) (event : Event) (item : Item) → Begins config.now run event session item self.old → BeginsWithout item
-            → IfOk made (λ kept. Starts config.now item session kept) → Advances config.now run event self.new }
-        ensures links { self.new.last_link ≤ self.old.last_link + 1 }
+            → IfOk made (λ kept. Starts config.now item session kept) → Gives config.now run event self.new }
     {
         match self.place(session, made) {
             Ok(()) => {
                 let end = self.start(session, config);
-                self.settle(session, end, config);
+                self.settle(session, end);
             }
             Err(AllocError) => self.fail(session, Ahead::Nothing),
         }
@@ -119,16 +130,19 @@ impl Worker {
 
     /// A session begins on the next link.
     fn begin_on(&mut self, session: u32, server: u8, config: &Config)
-        requires idle { IsIdle self.old }
-        requires unspent { self.old.last_link < 2 ^ 64 - 1 }
-        ensures advances { (run : List Entry) (event : Event) → Begins config.now run event session (Began (last_link run + 1) server) self.old
-            → Advances config.now run event self.new }
-        ensures links { self.new.last_link ≤ self.old.last_link + 1 }
+        requires allowed { IsAllowed config.now }
+        requires numbers { self.old.last_link + 2 < 2 ^ 64 }
+        ensures advances { (run : List Entry) (event : Event)
+            → Begins config.now run event session (Began (last_link run + 1) server self.old.now_ms) self.old
+            → Gives config.now run event self.new }
     {
         self.last_link += 1;
         let link = self.last_link;
         match self.seat(session, server, link, config) {
-            Ok(()) => {}
+            Ok(()) => {
+                let end = self.start(session, config);
+                self.settle(session, end);
+            }
             Err(AllocError) => {
                 self.owners.remove(&link);
                 self.fail(session, Ahead::Unmade { link });
@@ -153,12 +167,13 @@ impl Worker {
         link: u64,
         config: &Config,
     ) -> Result<(), AllocError>
-        ensures ok { OnOk result (Seats config.now session server link self.old self.new) }
+        requires allowed { IsAllowed config.now }
+        ensures ok { OnOk result (Seats config.now session (Began link server self.old.now_ms) link self.old self.new) }
         ensures err { OnErr result ((n : ℕ) → get nat_cmp self.new.sessions n ≡ get nat_cmp self.old.sessions n) }
         ensures owners { (other : ℕ) → (link ≡ other → ⊥) → get nat_cmp self.new.owners other ≡ get nat_cmp self.old.owners other }
         ensures rest { self.new ≡ record self.old { sessions = self.new.sessions; owners = self.new.owners } }
     {
-        let begun = Session::begin(self.alloc, session, server, link, config)?;
+        let begun = Session::begin(self.alloc, session, server, link, self.now_ms, config)?;
         self.owners.insert(link, session)?;
         self.sessions.insert(session, begun)?;
         Ok(())

@@ -4,7 +4,7 @@ ghost use Rattle.std.specs.Prelude.{◌≡◌, List, None};
 ghost use Rattle.rws_board.specs.declared.event.Event.TheVariants as events;
 ghost use Rattle.rws_config.specs.declared.config.Config.{Config};
 ghost use Rattle.rws_record.specs.Run.{Entry, names_none, names_only};
-ghost use Rattle.rws_worker.specs.Standing.{Advances, WorkerStands};
+ghost use Rattle.rws_worker.specs.Standing.{Gives, WorkerStands};
 ghost use Rattle.rws_worker.specs.Stepping.{IsIdle};
 
 use crate::Worker;
@@ -16,8 +16,7 @@ impl Worker {
     pub(super) fn observe(&mut self, round: Round, config: &Config)
         requires idle { IsIdle self.old }
         ensures advances { (run : List Entry) → WorkerStands config.now self.old run
-            → Advances config.now run (events.Observed round) self.new }
-        ensures links { self.new.last_link ≡ self.old.last_link }
+            → Gives config.now run (events.Observed round) self.new }
     {
         if names_only(config.servers.len(), &round) {
             self.observed = Some(round);

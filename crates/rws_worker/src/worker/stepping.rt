@@ -1,14 +1,20 @@
 //! What came of the last event, in order: what sessions gave out, and then, where memory was wanting to one, how it ends.
-ghost use Rattle.std.specs.Prelude.{◌≡◌, ◌∷◌, List, [], Some, None, MatchOption};
+ghost use Rattle.std.specs.Prelude.{◌≡◌, ◌∷◌, ℕ, List, [], Some, None, MatchOption};
 ghost use Rattle.std.specs.BTreeMap.{get};
 ghost use Rattle.std.specs.Ordering.{nat_cmp};
 ghost use Rattle.rws_config.specs.declared.config.Config.{Config};
 ghost use Rattle.rws_record.specs.Run.{Entry};
+ghost use Rattle.rws_worker.specs.declared.ahead.Ahead.TheVariants.{Nothing};
 ghost use Rattle.rws_worker.specs.Standing.{WorkerStands};
-ghost use Rattle.rws_worker.specs.Stepping.{going_in, endings, links_ahead, outs_ahead, outs_of_seat};
+ghost use Rattle.rws_worker.specs.Stepping.{Routes, broken_by, farewell_ahead, going_in, endings, links_ahead, outs_ahead, outs_of_seat};
+ghost use Rattle.rws_worker.specs.Working.{CanBeDone};
 
+use crate::ahead::Ahead;
+use crate::asker::Asker;
+use crate::worker::beginning::LAST_LINK;
 use crate::{Step, Worker};
 use rws_board::Action;
+use rws_pool::PoolCall;
 use rws_wire::{CloseReason, DropCause};
 
 impl Worker {
@@ -41,18 +47,49 @@ impl Worker {
         }
     }
 
+    /// That a session asks, unless no number is left for a link.
+    pub(super) fn next_route(&mut self) -> Option<Step>
+        requires unobserved { self.old.observed ≡ None }
+        ensures route { Routes result self.old self.new }
+        ensures stands { (config : Config) (run : List Entry) → WorkerStands config self.old run → outs_ahead self.old ≡ []
+            → WorkerStands config self.new run }
+        ensures can { (domain : ℕ) → MatchOption result (Unit {0}) (λ step. CanBeDone domain step) }
+        ensures telling { self.new.telling ≡ self.old.telling }
+    {
+        match self.asker {
+            Asker::Nobody => None,
+            Asker::Awaits { session: _ } => None,
+            Asker::Asks { session } => {
+                if self.last_link >= LAST_LINK {
+                    return Some(Step::Spent);
+                }
+                self.asker = Asker::Awaits { session };
+                self.clear();
+                Some(Step::Call(PoolCall::Route { session }))
+            }
+        }
+    }
+
+    /// Nothing is left of what a session gave out.
+    pub(super) fn clear(&mut self)
+        ensures { self.new ≡ record self.old { ahead = Nothing } }
+    {
+        self.ahead = Ahead::Nothing;
+    }
+
     /// What comes next of the end of a session to which memory was wanting.
     pub(super) fn next_ending(&mut self) -> Option<Step>
         ensures step { MatchOption result ((endings self.old ≡ []) × (self.new.broken ≡ None) × (self.new.closing ≡ None))
             (λ step. endings self.old ≡ step ∷ endings self.new) }
         ensures outs { outs_ahead self.new ≡ outs_ahead self.old }
         ensures observed { self.new.observed ≡ self.old.observed }
+        ensures asker { self.new.asker ≡ self.old.asker }
+        ensures telling { self.new.telling ≡ self.old.telling }
         ensures stands { (config : Config) (run : List Entry) → WorkerStands config self.old run → WorkerStands config self.new run }
-        ensures links { self.new.last_link ≡ self.old.last_link }
+        ensures can { (domain : ℕ) → MatchOption result (Unit {0}) (λ step. CanBeDone domain step) }
     {
-        if let Some(session) = self.broken.take() {
-            let farewell = self.ahead.farewell(self.alloc);
-            return Some(Step::Broken { session, farewell });
+        if let Some(step) = self.next_broken() {
+            return Some(step);
         }
         if let Some(session) = self.closing.take() {
             return Some(Step::Act(Action::Close {
@@ -65,6 +102,27 @@ impl Worker {
             link,
             cause: DropCause::End,
         }))
+    }
+
+    /// What the client of such a session is told, if it was made.
+    fn next_broken(&mut self) -> Option<Step>
+        ensures step { MatchOption result (broken_by self.old.broken (farewell_ahead self.old.ahead) ≡ [])
+            (λ step. broken_by self.old.broken (farewell_ahead self.old.ahead) ≡ step ∷ []) }
+        ensures told { self.new.broken ≡ None }
+        ensures links { links_ahead self.new.ahead ≡ links_ahead self.old.ahead }
+        ensures outs { outs_ahead self.new ≡ outs_ahead self.old }
+        ensures rest { self.new ≡ record self.old { ahead = self.new.ahead; broken = None } }
+        ensures stands { (config : Config) (run : List Entry) → WorkerStands config self.old run → WorkerStands config self.new run }
+        ensures can { (domain : ℕ) → MatchOption result (Unit {0}) (λ step. CanBeDone domain step) }
+    {
+        let Some(session) = self.broken.take() else {
+            return None;
+        };
+        let farewell = self.ahead.farewell(self.alloc);
+        if farewell.is_empty() {
+            return None;
+        }
+        Some(Step::Broken { session, farewell })
     }
 
     /// The first of the links that such a session has left, which is given up.

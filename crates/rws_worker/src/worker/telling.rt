@@ -1,14 +1,15 @@
 //! Which session an event is for, and what becomes of the session.
-ghost use Rattle.std.specs.Prelude.{◌≡◌, ◌<◌, ◌≤◌, ◌+◌, ◌-◌, ◌^◌, ℕ, true, List, None, Some};
+ghost use Rattle.std.specs.Prelude.{◌≡◌, ◌++◌, ℕ, true, List, None, Some};
 ghost use Rattle.rws_board.specs.declared.event.Event.{Event};
 ghost use Rattle.rws_config.specs.declared.config.Config.{Config};
 ghost use Rattle.rws_record.specs.Item.{Item};
-ghost use Rattle.rws_record.specs.Run.{Entry, begun_by, owner, record_of, round_of, told_by};
+ghost use Rattle.rws_record.specs.Run.{Entry, events_of, owner, record_of, told_by, untold};
 ghost use Rattle.rws_session.specs.Kept.{Kept, Stands};
 ghost use Rattle.rws_session.specs.Turning.{heard};
-ghost use Rattle.rws_worker.specs.Standing.{Advances, IsOn, WorkerStands, holds, told_through, told_with};
-ghost use Rattle.rws_worker.specs.Stepping.{IsIdle};
-ghost use Rattle.rws_worker.specs.Telling.{TurnsOut, end_of};
+ghost use Rattle.rws_worker.specs.InTurn.{IsBetween};
+ghost use Rattle.rws_worker.specs.Standing.{Advances, Gives, IsBehind, IsOn, ToTell, WorkerStands, holds, interactions_of, told_through, told_with};
+ghost use Rattle.rws_worker.specs.Stepping.{IsBare, IsIdle, from_of};
+ghost use Rattle.rws_worker.specs.Telling.{IsToOne, TurnsOut, end_of};
 
 use crate::Worker;
 use rws_config::Config;
@@ -30,38 +31,44 @@ pub(super) enum TurnEnd {
 }
 
 impl Worker {
+    /// An event tells an input to a session, if it goes on.
+    pub(super) fn hear(&mut self, session: u32, input: SessionInput, config: &Config)
+        requires idle { IsIdle self.old }
+        ensures advances { (run : List Entry) → WorkerStands config.now self.old run → (event : Event) → IsToOne event
+            → told_by config.now event run ≡ told_with session input (record_of session run)
+            → Gives config.now run event self.new }
+    {
+        self.tell(session, input, config);
+    }
+
+    /// An event tells an input to the session that a link belongs to.
+    pub(super) fn hear_on(&mut self, link: u64, input: SessionInput, config: &Config)
+        requires idle { IsIdle self.old }
+        requires on { IsOn link input }
+        ensures advances { (run : List Entry) → WorkerStands config.now self.old run → (event : Event) → IsToOne event
+            → told_by config.now event run ≡ told_through (owner link run) input run
+            → Gives config.now run event self.new }
+    {
+        match self.owners.get(&link).copied() {
+            Some(session) => self.hear(session, input, config),
+            None => {}
+        }
+    }
+
     /// Tells an input to a session, if it goes on. A session that is over then is forgotten.
     pub(super) fn tell(&mut self, session: u32, input: SessionInput, config: &Config)
-        requires idle { IsIdle self.old }
-        requires unspent { self.old.last_link < 2 ^ 64 - 1 }
-        ensures advances { (run : List Entry) → WorkerStands config.now self.old run → (event : Event) → begun_by event ≡ 0
-            → round_of config.now event ≡ None
-            → told_by config.now event run ≡ told_with session input (record_of session run)
-            → Advances config.now run event self.new }
-        ensures links { self.new.last_link ≤ self.old.last_link + 1 }
+        ensures advances { (run : List Entry) → IsBetween config.now self.old run → IsBare self.old → IsBehind (from_of self.old.telling) session
+            → (more : List (ℕ × Item)) → ToTell (from_of self.old.telling) self.old.now_ms run more
+            → untold config.now run ≡ told_with session input (record_of session run) ++ more
+            → Advances config.now (interactions_of run) (events_of run) self.new }
+        ensures telling { self.new.telling ≡ self.old.telling }
     {
+        self.count_out(session);
         let Some(told) = self.sessions.get_mut(&session) else {
             return;
         };
         let end = turn(told, input, config);
-        self.settle(session, end, config);
-    }
-
-    /// Tells an input to the session that a link belongs to.
-    pub(super) fn tell_on(&mut self, link: u64, input: SessionInput, config: &Config)
-        requires idle { IsIdle self.old }
-        requires unspent { self.old.last_link < 2 ^ 64 - 1 }
-        requires on { IsOn link input }
-        ensures advances { (run : List Entry) → WorkerStands config.now self.old run → (event : Event) → begun_by event ≡ 0
-            → round_of config.now event ≡ None
-            → told_by config.now event run ≡ told_through (owner link run) input run
-            → Advances config.now run event self.new }
-        ensures links { self.new.last_link ≤ self.old.last_link + 1 }
-    {
-        match self.owners.get(&link).copied() {
-            Some(session) => self.tell(session, input, config),
-            None => {}
-        }
+        self.settle(session, end);
     }
 
     /// Forgets whose a link was, where its session hasn't the link any more.

@@ -1,12 +1,16 @@
-use Rattle.rws_worker.proofs.EndLemmas.{answered, unanswered}
+use Rattle.std.proofs.Common.{◌≡◌, true, false, ap, sym, ◌∙◌, subst, refl}
+use Rattle.rws_worker.specs.declared.asker.Asker.{Asker}
+use Rattle.rws_worker.specs.Stepping.{is_awaiting}
 use Rattle.rws_worker.proofs.worker.Worker.answer.Goals as goal
 
-pub returns-in-Ok-clause-advances : goal.returns-in-Ok-clause-advances
-returns-in-Ok-clause-advances c = λ before event w.
-    let o = c.in-Ok.ensures.ok w.kept w.here in
-    answered w c.open.new.self c.start-end.new.self c.finish.new.self o c.in-Ok.ensures.rest c.start-end.result
-    (c.start-end.ensures.goes o.kept o.sessions.here) c.start-end.ensures.rest c.finish.ensures.finishes
+pub returns-in-Awaits-clause-advances : goal.returns-in-Awaits-clause-advances
+returns-in-Awaits-clause-advances g c = λ run w waits known. c.answer_to.ensures.advances run w c.in-Awaits.is known
 
-pub returns-in-Err-clause-advances : goal.returns-in-Err-clause-advances
-returns-in-Err-clause-advances c = λ before event w.
-    unanswered w c.open.new.self c.finish-in-Err.new.self (c.in-Err.ensures.err w.kept w.here) c.in-Err.ensures.rest c.finish-in-Err.ensures.finishes
+pub returns-in-Awaits-clause-none : goal.returns-in-Awaits-clause-none
+returns-in-Awaits-clause-none g c = λ none. let clash : true ≡ false = sym (ap is_awaiting c.in-Awaits.is) ∙ none in absurd cc
+
+pub returns-in-Asks-clause-advances : goal.returns-in-Asks-clause-advances
+returns-in-Asks-clause-advances g c = λ run w waits known. let clash : false ≡ true = sym (ap is_awaiting c.in-Asks.is) ∙ waits in absurd cc
+
+pub returns-in-Nobody-clause-advances : goal.returns-in-Nobody-clause-advances
+returns-in-Nobody-clause-advances g c = λ run w waits known. let clash : false ≡ true = sym (ap is_awaiting c.in-Nobody.is) ∙ waits in absurd cc
