@@ -20,12 +20,12 @@ use Rattle.rws_trace.specs.ScriptBoards.{ScriptBoardState, ScriptDid, FirstEvent
 use Rattle.rws_trace.specs.declared.side.Side.{Side}
 use Rattle.rws_trace.proofs.Texts.{text_of-append}
 use Rattle.rws_worker.specs.Standing.{interactions_of}
-use Rattle.rws_worker.specs.Working.{IsResting, IsFront, Works}
-use Rattle.rws_worker.specs.Working.Works.{ended, unread as untold, untaken, too_many as full, starved_reading, starved_acting}
+use Rattle.rws_worker.specs.Working.{IsResting, IsFront, IsSpent, Works}
+use Rattle.rws_worker.specs.Working.Works.{ended, unread as untold, untaken, too_many as full, spent as used_up, starved_reading, starved_acting}
 use Rattle.rws_worker.specs.declared.work.WorkEnd.{WorkEnd}
 use Rattle.rws_worker.proofs.InteractionLemmas.{IsCutAt, cut_at, flat_map-without_gave, without_gave-run}
 use Rattle.rws_top.specs.Trace.{AnswersTrace, HasHeardAll, IsBegun, IsCut, IsScript, settings_of}
-use Rattle.rws_top.specs.Trace.Traces.{unread, unwritten, out_of_memory, too_many}
+use Rattle.rws_top.specs.Trace.Traces.{unread, unwritten, out_of_memory, too_many, spent}
 use Rattle.rws_top.specs.Tracing.{EndsSo, IsClosing, board_over, end_of, failing_end}
 use Rattle.rws_top.specs.declared.trace.TraceEnd.{TraceEnd}
 use Rattle.rws_top.proofs.ScriptLemmas.{StartsWith, starts_with, unread_yet, reads_first, part_first, out_script, heard_all}
@@ -147,6 +147,40 @@ module _ (config : Config) (before taken : Option (List ℕ)) (input output : �
       by_status = out_of_memory refl is_cut;
     }
 
+  -- All lines of what was done were put, and nothing more can be numbered.
+
+  module _ (done : List Interaction) (at : IsCutAt config done) (is_spent : IsSpent config done) (d : ScriptDid start new done Going) where
+    abbrev script_done : StartsWith config before (events_given done)
+    script_done =
+        let g : Goes start new done = d.stands in
+        starts_with config before (events_given done)
+        (reads_first config new.reader.place (events_given done) new.reader.held before new.left g.read)
+
+    nothing_left : Answers 10
+    nothing_left =
+        let g : Goes start new done = d.stands in
+        record {
+          script = script_done.script;
+          printed = text_of done;
+          of_input = script_done.of_input;
+          took = g.printed;
+          by_status = spent refl done is_spent refl (record {
+            whole = text_of (done_in at.run);
+            of_script = inr (record {
+              heard = events_given done;
+              ahead = script_done.ahead;
+              parted = script_done.parted;
+              run = at.run;
+              over = record { legal = at.legal; rests = at.rests; heard = at.heard };
+              printed = refl;
+            });
+            front = record {
+              rest = text_of at.rest;
+              parted = sym (text_of-run at.run) ∙ ap text_of at.parted ∙ text_of-append done at.rest;
+            };
+          });
+        }
+
   cut_by : (done : List Interaction) → IsFront config done → IsCutAt config done
   cut_by done f = cut_at config done f.run f.rest f.resting.legal f.resting.rests f.resting.told f.parted
 
@@ -207,6 +241,7 @@ module _ (config : Config) (before taken : Option (List ℕ)) (input output : �
   ends_so (untaken done front d) =
       subst (λ (failed : Option Side). Ending (failing_end failed)) (sym d.stands.0) (unput done (cut_by done front) d.stands.2 d.stands.1)
   ends_so (full run event resting last d) = one_too_many run event resting d last
+  ends_so (used_up done front is_spent d) = nothing_left done (cut_by done front) is_spent d
   ends_so (starved_reading run resting d) = cut_for_memory (interactions_of run) (cut_whole run resting) d.stands
   ends_so (starved_acting done front d) = cut_for_memory done (cut_by done front) d.stands
 

@@ -4,7 +4,7 @@ use Rattle.rws_board.specs.Boards.{Standing}
 use Rattle.rws_board.specs.declared.interaction.Interaction.{Interaction}
 use Rattle.rws_config.specs.declared.config.Config.{Config}
 use Rattle.rws_worker.specs.Working.{Works}
-use Rattle.rws_worker.specs.Working.Works.{ended, unread, untaken, too_many, starved_reading, starved_acting}
+use Rattle.rws_worker.specs.Working.Works.{ended, unread, untaken, too_many, spent, starved_reading, starved_acting}
 use Rattle.rws_worker.specs.declared.work.WorkEnd.{WorkEnd}
 
 module _ {config : Config} {did : List Interaction → Standing → Type 0} where
@@ -14,6 +14,7 @@ module _ {config : Config} {did : List Interaction → Standing → Type 0} wher
   works_map f (unread run resting d) = unread run resting (f _ _ d)
   works_map f (untaken done front d) = untaken done front (f _ _ d)
   works_map f (too_many run event resting full d) = too_many run event resting full (f _ _ d)
+  works_map f (spent done front is_spent d) = spent done front is_spent (f _ _ d)
   works_map f (starved_reading run resting d) = starved_reading run resting (f _ _ d)
   works_map f (starved_acting done front d) = starved_acting done front (f _ _ d)
 
@@ -23,5 +24,6 @@ module _ {config : Config} {did : List Interaction → Standing → Type 0} wher
   works_always f (unread run resting d) = f _ _ d
   works_always f (untaken done front d) = f _ _ d
   works_always f (too_many run event resting full d) = f _ _ d
+  works_always f (spent done front is_spent d) = f _ _ d
   works_always f (starved_reading run resting d) = f _ _ d
   works_always f (starved_acting done front d) = f _ _ d

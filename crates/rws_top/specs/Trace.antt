@@ -2,6 +2,7 @@
 use Rattle.std.specs.Prelude.{◌≡◌, ℕ, ◌+◌, ◌^◌, ◌<◌, ◌≤◌, ◌⊎◌, Bool, false, List, [], ◌∷◌, ◌++◌, length, Option, Some, None, is_none, ⊤}
 use Rattle.std.specs.Io.KnownBytes.{Appends, IsAtEnd}
 use Rattle.rws_board.specs.declared.event.Event.{Event}
+use Rattle.rws_board.specs.declared.interaction.Interaction.{Interaction}
 use Rattle.rws_config.specs.declared.account.Account.{Account}
 use Rattle.rws_config.specs.declared.config.Config.{Config}
 use Rattle.rws_record.specs.Run.{Entry, IsRunOver, done_in}
@@ -9,6 +10,7 @@ use Rattle.rws_trace.specs.Lines.{IsFeedless, IsWhole as IsWholeLines}
 use Rattle.rws_trace.specs.Script.{Script, script_of}
 use Rattle.rws_trace.specs.Printing.{text_of, end_line, bad_line}
 use Rattle.rws_trace.specs.declared.settings.TraceSettings.{TraceSettings}
+use Rattle.rws_worker.specs.Working.{IsSpent}
 
 -- the first account has no password
 abbrev pub is_plain : List Account → Bool
@@ -84,6 +86,9 @@ pub data Traces (config : Config) (script : Script) (printed : List ℕ) (before
       → Traces config script printed before left input_failed output_failed status
   -- before the event of number 2^32
   too_many : status ≡ 10 → (begun : IsBegun config script printed) → length begun.heard + 1 ≡ 2 ^ 32 → 2 ^ 32 ≤ length script.events
+      → Traces config script printed before left input_failed output_failed status
+  -- where no further link can be numbered, or no further thing that is done be counted
+  spent : status ≡ 10 → (done : List Interaction) → IsSpent config done → printed ≡ text_of done → IsCut config script printed
       → Traces config script printed before left input_failed output_failed status
 
 -- the trace of an input on an output, which has `taken` before and `taken'` now

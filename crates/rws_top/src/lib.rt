@@ -13,4 +13,6 @@ pub use run::run_here;
 #[cfg(test)]
 mod results;
 #[cfg(test)]
+mod routes;
+#[cfg(test)]
 mod tests;

@@ -9,28 +9,28 @@ use std::test::Fail;
 const RESULTS: [(&[u8], &[u8]); 5] = [
     // rows, cut anyhow: the number of columns, a definition, an EOF, two rows, an EOF
     (
-        b"begin 1 0\nclient 1 020000000378\nlink 1 010000010117000002\nlink 1 036465660000000161000c2d000a000000fd000000000005000003fe00000200\nlink 1 02000004013601000005fb05\nlink 1 000006fe00000200\n",
-        b"link 1 020000000378\nclient 1 0100000101\nclient 1 17000002036465660000000161000c2d000a000000fd0000000000\nclient 1 05000003fe00000200\nclient 1 020000040136\nclient 1 01000005fb\nclient 1 05000006fe00000200\nend 6\n",
+        b"begin 1 0\nobserve 0=master:5\nclient 1 020000000378\nlink 1 010000010117000002\nlink 1 036465660000000161000c2d000a000000fd000000000005000003fe00000200\nlink 1 02000004013601000005fb05\nlink 1 000006fe00000200\n",
+        b"observed\nroute 1\nlink 1 020000000378\nclient 1 0100000101\nclient 1 17000002036465660000000161000c2d000a000000fd0000000000\nclient 1 05000003fe00000200\nclient 1 020000040136\nclient 1 01000005fb\nclient 1 05000006fe00000200\nend 7\n",
     ),
     // a result and an OK behind it; the ping waits until both are whole
     (
-        b"begin 1 0\nclient 1 020000000378\nlink 1 010000010117000002036465660000000161000c2d000a000000fd000000000005000003fe00000a0002000004013505000005fe00000a00\nclient 1 010000000e\nlink 1 0700000600000002000000\n",
-        b"link 1 020000000378\nclient 1 0100000101\nclient 1 17000002036465660000000161000c2d000a000000fd0000000000\nclient 1 05000003fe00000a00\nclient 1 020000040135\nclient 1 05000005fe00000a00\nclient 1 0700000600000002000000\nclient 1 0700000100000002000000\nend 5\n",
+        b"begin 1 0\nobserve 0=master:5\nclient 1 020000000378\nlink 1 010000010117000002036465660000000161000c2d000a000000fd000000000005000003fe00000a0002000004013505000005fe00000a00\nclient 1 010000000e\nlink 1 0700000600000002000000\n",
+        b"observed\nroute 1\nlink 1 020000000378\nclient 1 0100000101\nclient 1 17000002036465660000000161000c2d000a000000fd0000000000\nclient 1 05000003fe00000a00\nclient 1 020000040135\nclient 1 05000005fe00000a00\nclient 1 0700000600000002000000\nclient 1 0700000100000002000000\nend 6\n",
     ),
     // an ERR in place of a row
     (
-        b"begin 1 0\nclient 1 020000000378\nlink 1 010000010117000002036465660000000161000c2d000a000000fd000000000005000003fe0000020002000004013512000005ffbd0423485930303064656164206c6f636b\n",
-        b"link 1 020000000378\nclient 1 0100000101\nclient 1 17000002036465660000000161000c2d000a000000fd0000000000\nclient 1 05000003fe00000200\nclient 1 020000040135\nclient 1 12000005ffbd0423485930303064656164206c6f636b\nend 3\n",
+        b"begin 1 0\nobserve 0=master:5\nclient 1 020000000378\nlink 1 010000010117000002036465660000000161000c2d000a000000fd000000000005000003fe0000020002000004013512000005ffbd0423485930303064656164206c6f636b\n",
+        b"observed\nroute 1\nlink 1 020000000378\nclient 1 0100000101\nclient 1 17000002036465660000000161000c2d000a000000fd0000000000\nclient 1 05000003fe00000200\nclient 1 020000040135\nclient 1 12000005ffbd0423485930303064656164206c6f636b\nend 4\n",
     ),
     // COM_FIELD_LIST: definitions without their number before them
     (
-        b"begin 1 0\nclient 1 03000000047400\nlink 1 18000001036465660000000161000c2d000a000000fd0000000000fb05000002fe00000200\n",
-        b"link 1 03000000047400\nclient 1 18000001036465660000000161000c2d000a000000fd0000000000fb\nclient 1 05000002fe00000200\nend 3\n",
+        b"begin 1 0\nobserve 0=master:5\nclient 1 03000000047400\nlink 1 18000001036465660000000161000c2d000a000000fd0000000000fb05000002fe00000200\n",
+        b"observed\nroute 1\nlink 1 03000000047400\nclient 1 18000001036465660000000161000c2d000a000000fd0000000000fb\nclient 1 05000002fe00000200\nend 4\n",
     ),
     // an OK with a session state, which the client gets without it
     (
-        b"begin 1 0\nclient 1 020000000378\nlink 1 1b0000010001000240000000120010096c6173745f6774696405302d312d37\n",
-        b"link 1 020000000378\nclient 1 0700000100010002000000\nend 3\n",
+        b"begin 1 0\nobserve 0=master:5\nclient 1 020000000378\nlink 1 1b0000010001000240000000120010096c6173745f6774696405302d312d37\n",
+        b"observed\nroute 1\nlink 1 020000000378\nclient 1 0700000100010002000000\nend 4\n",
     ),
 ];
 
@@ -108,19 +108,20 @@ const ROW: &[u8] = b"ffffff05616161616161616161616161616161";
 #[test]
 fn large_payloads_are_passed_on(rt: HostRuntime) -> Result<(), Fail> {
     let mut text = Vec::new(rt.alloc());
-    text.extend_from_slice(b"begin 1 0\n")?;
+    text.extend_from_slice(b"begin 1 0\nobserve 0=master:5\n")?;
     pieces(&mut text, b"client 1 ", QUERY, b"41660301")?;
     line(&mut text, b"link 1 ", FRONT)?;
     pieces(&mut text, b"link 1 ", ROW, b"41660306")?;
     line(&mut text, b"link 1 ", b"05000007fe00000200")?;
     let mut printed = Vec::new(rt.alloc());
+    printed.extend_from_slice(b"observed\nroute 1\n")?;
     whole(&mut printed, b"link 1 ", QUERY, b"41660301")?;
     line(&mut printed, b"client 1 ", &FRONT[..10])?;
     line(&mut printed, b"client 1 ", &FRONT[10..64])?;
     line(&mut printed, b"client 1 ", &FRONT[64..])?;
     whole(&mut printed, b"client 1 ", ROW, b"41660306")?;
     line(&mut printed, b"client 1 ", b"05000007fe00000200")?;
-    printed.extend_from_slice(b"end 79\n")?;
+    printed.extend_from_slice(b"end 80\n")?;
     let (ended, sink) = run_in(rt.alloc(), 70_000_000, text.as_slice())?;
     assert_eq!(rt; ended, 0);
     assert!(rt; sink.as_slice() == printed.as_slice());
@@ -156,17 +157,17 @@ fn digit(value: u8) -> u8
 fn many_rows_are_passed_on(rt: HostRuntime) -> Result<(), Fail> {
     let mut text = Vec::new(rt.alloc());
     text.extend_from_slice(
-        b"begin 1 0\nclient 1 020000000378\nlink 1 010000010117000002036465660000000161000c2d000a000000fd000000000005000003fe00000200\n",
+        b"begin 1 0\nobserve 0=master:5\nclient 1 020000000378\nlink 1 010000010117000002036465660000000161000c2d000a000000fd000000000005000003fe00000200\n",
     )?;
     rows(&mut text, b"link 1 ", 100_000)?;
     line(&mut text, b"link 1 ", b"050000a4fe00000200")?;
     let mut printed = Vec::new(rt.alloc());
     printed.extend_from_slice(
-        b"link 1 020000000378\nclient 1 0100000101\nclient 1 17000002036465660000000161000c2d000a000000fd0000000000\nclient 1 05000003fe00000200\n",
+        b"observed\nroute 1\nlink 1 020000000378\nclient 1 0100000101\nclient 1 17000002036465660000000161000c2d000a000000fd0000000000\nclient 1 05000003fe00000200\n",
     )?;
     rows(&mut printed, b"client 1 ", 100_000)?;
     line(&mut printed, b"client 1 ", b"050000a4fe00000200")?;
-    printed.extend_from_slice(b"end 100004\n")?;
+    printed.extend_from_slice(b"end 100005\n")?;
     let (ended, sink) = run_in(rt.alloc(), 3_000_000, text.as_slice())?;
     assert_eq!(rt; ended, 0);
     assert!(rt; sink.as_slice() == printed.as_slice());

@@ -2,23 +2,27 @@
 ghost use Rattle.std.specs.Prelude.{◌≡◌, ℕ, List, Err, IfOk};
 ghost use Rattle.rws_board.specs.Faults.{Rises};
 ghost use Rattle.rws_config.specs.Settings.{Gives, settings_of};
+ghost use Rattle.rws_select.specs.Choice.{HasScorer};
 ghost use Rattle.rws_top.specs.Asking.{AnswersFile, AnswersLine, RefusesSettings, settings_line};
 ghost use Rattle.rws_top.specs.Words.{is_memory};
 
 use crate::trace::trace;
 use rws_board::{Failed, FileFault, Files, Sink, Source};
 use rws_config::{ConfigFault, fault_text, read};
+use rws_select::{Load, Selector};
 use rws_wire::Text;
 use std::alloc::{AllocError, Global};
 
 /// Reads the settings of the file at this path, and runs the trace of the input with them.
-pub(crate) fn trace_with<I: Source, O: Sink, D: Files>(
+pub(crate) fn trace_with<I: Source, O: Sink, D: Files, F: Fn(&Load) -> u64 + Sync>(
     alloc: Global,
     path: &str,
     input: &mut I,
     out: &mut O,
     files: &mut D,
+    selector: &Selector<F>,
 ) -> u8
+    requires scorer { HasScorer F.Fn selector.now }
     ensures { AnswersFile path.now (D.files files.old) (I.left input.old) (I.left input.new) (O.taken out.old) (O.taken out.new)
         (Rises (I.faults input.old) (I.faults input.new)) (Rises (D.faults files.old) (D.faults files.new))
         (Rises (O.faults out.old) (O.faults out.new)) result }
@@ -29,7 +33,7 @@ pub(crate) fn trace_with<I: Source, O: Sink, D: Files>(
         Err(FileFault::OutOfMemory) => return 9,
     };
     match read(alloc, text.as_slice()) {
-        Ok(config) => trace(alloc, &config, input, out),
+        Ok(config) => trace(alloc, &config, input, out, selector),
         Err(fault) => refuse(alloc, fault, out),
     }
 }

@@ -1,6 +1,8 @@
 //! What no contract says: that a run succeeds with ample memory, and traces from outside.
 use super::*;
+use crate::routes::SEVEN_SERVERS;
 use rws_board::{CallList, FileList, MemFiles, MemSink, MemSource};
+use rws_select::Load;
 use rws_wire::Text;
 use std::alloc::Global;
 use std::test::Fail;
@@ -33,9 +35,9 @@ const TRACES: [(&[u8], u8, &[u8]); 12] = [
     ),
     // a query, its reply, and the loss of the link behind it
     (
-        b"begin 1 0\nclient 1 020000000378\nlink 1 0700000100000002000000\nlost 1\n",
+        b"begin 1 0\nobserve 0=master:5\nclient 1 020000000378\nlink 1 0700000100000002000000\nlost 1\n",
         0,
-        b"link 1 020000000378\nclient 1 0700000100000002000000\nclose 1 session-state\nend 4\n",
+        b"observed\nroute 1\nlink 1 020000000378\nclient 1 0700000100000002000000\nclose 1 session-state\nend 5\n",
     ),
     // commands that the proxy answers itself: an unknown one, one that it doesn't take, an empty packet, and a quit
     (
@@ -63,9 +65,9 @@ const TRACES: [(&[u8], u8, &[u8]); 12] = [
     (b"observe 0=down:0 3=down:0\n", 7, b"bad line 1\n"),
     // three sessions; what names a session that isn't there, or a link that is gone, gives nothing
     (
-        b"begin 1 0\nbegin 5 1\nbegin 9 2\nclient 9 020000000378\nclient 2 010000000e\nclient 5 010000000e\ngone 1\nlink 1 00\nlink 3 0700000100000002000000\nclient 1 010000000e\nlink 2 00\nlost 3\nclient 9 010000000e\n",
+        b"observe 2=master:5\nbegin 1 0\nbegin 5 1\nbegin 9 2\nclient 9 020000000378\nclient 2 010000000e\nclient 5 010000000e\ngone 1\nlink 1 00\nlink 3 0700000100000002000000\nclient 1 010000000e\nlink 2 00\nlost 3\nclient 9 010000000e\n",
         0,
-        b"link 3 020000000378\nclient 5 0700000100000002000000\ndrop 1 end\nclient 9 0700000100000002000000\ndrop 2 unasked\nclose 5 session-state\nclose 9 session-state\nend 13\n",
+        b"observed\nroute 9\nlink 3 020000000378\nclient 5 0700000100000002000000\ndrop 1 end\nclient 9 0700000100000002000000\ndrop 2 unasked\nclose 9 session-state\nend 14\n",
     ),
 ];
 
@@ -80,7 +82,7 @@ const EIGHT_SERVERS: &[u8] =
 const ONE_SESSION: &[u8] =
     b"version = 1\nsessions = 1\n[[server]]\nname = \"a\"\naddress = \"127.0.0.1:3306\"\n[[account]]\nuser = \"app\"\npassword = \"\"\n";
 
-/// The files that the program may read: `settings`, `eight` and `single`.
+/// The files that the program may read: `settings`, `eight`, `single` and `seven`.
 fn files(alloc: Global, fails: &[u64]) -> Result<MemFiles, Fail> {
     let mut files = FileList::new(alloc);
     files.push(
@@ -94,6 +96,10 @@ fn files(alloc: Global, fails: &[u64]) -> Result<MemFiles, Fail> {
     files.push(
         Text::from_slice(alloc, b"single")?,
         Text::from_slice(alloc, ONE_SESSION)?,
+    )?;
+    files.push(
+        Text::from_slice(alloc, b"seven")?,
+        Text::from_slice(alloc, SEVEN_SERVERS)?,
     )?;
     Ok(MemFiles::new(files, CallList::from_slice(alloc, fails)?))
 }
@@ -129,7 +135,8 @@ fn run_with(
     let mut source = MemSource::new(bytes, CallList::from_slice(alloc, fails.reads)?);
     let mut sink = MemSink::new(alloc, room, CallList::from_slice(alloc, fails.writes)?)?;
     let mut files = files(alloc, fails.files)?;
-    let status = run_here(alloc, &owned, &mut source, &mut sink, &mut files);
+    let score = |load: &Load| u64::from(load.pending) * 65536 + u64::from(load.links);
+    let status = run_here(alloc, &owned, &mut source, &mut sink, &mut files, score);
     Ok((status, sink))
 }
 
@@ -147,6 +154,11 @@ fn run_over(
         files: &[],
     };
     run_with(alloc, 1024, words, input, &fails)
+}
+
+/// The same with the settings of a file, where no call fails.
+pub fn run_with_settings(alloc: Global, name: &str, input: &[u8]) -> Result<(u8, MemSink), Fail> {
+    run_with(alloc, 4096, &["trace", name], input, &NONE)
 }
 
 /// The same with the words of a trace, where no call fails.
@@ -214,10 +226,39 @@ const LOGINS: [(&[u8], &[u8]); 4] = [
     ),
     // its first query opens a link, on which its login is repeated
     (
-        b"accept 2 4142434445464748494a4b4c4d4e4f5051525354\nclient 2 3b00000101a20800000000012d000000000000000000000000000000000000000000000061707000006d7973716c5f6e61746976655f70617373776f726400\nclient 2 020000000378\nlink 1 4f0000000a31302e362e302d66616b6500010000004141414141414141000fa22d0200ae001500000000000000000000414141414141414141414141006d7973716c5f6e61746976655f70617373776f726400\nlink 1 0700000200000002000000\nlink 1 0700000100000002000000\nlink 1 0700000100000002000000\n",
-        b"client 2 520000000a31302e362e302d727773706c697400020000004142434445464748000fa72d02003e001500000000000000000000494a4b4c4d4e4f5051525354006d7973716c5f6e61746976655f70617373776f726400\nclient 2 0700000200000002000000\nopen 1 0 2\nlink 1 3b00000101a2ae00000000012d000000000000000000000000000000000000000000000061707000006d7973716c5f6e61746976655f70617373776f726400\nlink 1 64000000035345542053455353494f4e2073657373696f6e5f747261636b5f73797374656d5f7661726961626c6573203d20434f4e43415428404073657373696f6e5f747261636b5f73797374656d5f7661726961626c65732c20272c6c6173745f677469642729\nlink 1 020000000378\nclient 2 0700000100000002000000\nend 7\n",
+        b"accept 2 4142434445464748494a4b4c4d4e4f5051525354\nclient 2 3b00000101a20800000000012d000000000000000000000000000000000000000000000061707000006d7973716c5f6e61746976655f70617373776f726400\nobserve 0=master:5\nclient 2 020000000378\nlink 1 4f0000000a31302e362e302d66616b6500010000004141414141414141000fa22d0200ae001500000000000000000000414141414141414141414141006d7973716c5f6e61746976655f70617373776f726400\nlink 1 0700000200000002000000\nlink 1 0700000100000002000000\nlink 1 0700000100000002000000\n",
+        b"client 2 520000000a31302e362e302d727773706c697400020000004142434445464748000fa72d02003e001500000000000000000000494a4b4c4d4e4f5051525354006d7973716c5f6e61746976655f70617373776f726400\nclient 2 0700000200000002000000\nobserved\nroute 2\nopen 1 0 2\nlink 1 3b00000101a2ae00000000012d000000000000000000000000000000000000000000000061707000006d7973716c5f6e61746976655f70617373776f726400\nlink 1 64000000035345542053455353494f4e2073657373696f6e5f747261636b5f73797374656d5f7661726961626c6573203d20434f4e43415428404073657373696f6e5f747261636b5f73797374656d5f7661726961626c65732c20272c6c6173745f677469642729\nlink 1 020000000378\nclient 2 0700000100000002000000\nend 8\n",
     ),
 ];
+
+/// Commands that are routed, and what is printed.
+const ROUTES: [(&[u8], &[u8]); 3] = [
+    // a read goes to the replica with fewer links, and to the other one when its link is lost
+    (
+        b"observe 0=master:5 1=slave:5 2=slave:5\nbegin 1 1\nclient 1 100000000373656c65637420612066726f6d2074\nready 2\nlost 2\n",
+        b"observed\nroute 1\nopen 2 2 1\nlink 2 100000000373656c65637420612066726f6d2074\nroute 1\nlink 1 100000000373656c65637420612066726f6d2074\nend 5\n",
+    ),
+    // a command waits for a primary as long as the settings say
+    (
+        b"begin 1 0\nclient 1 0e0000000364656c6574652066726f6d2074\nclock 9999\nclock 10000\n",
+        b"route 1\nroute 1\nroute 1\nclient 1 13000001ff51042348593030306e6f207072696d617279\nend 4\n",
+    ),
+    // one whose link is lost before a byte came of its reply waits too, and then tries the same server again
+    (
+        b"begin 1 0\nobserve 0=master:5\nclient 1 0c0000000373686f77207461626c6573\nlink 1 01000001fb\nclock 100\n",
+        b"observed\nroute 1\nlink 1 0c0000000373686f77207461626c6573\ndrop 1 bad-reply\nroute 1\nroute 1\nopen 2 0 1\nend 5\n",
+    ),
+];
+
+#[test]
+fn commands_are_routed(rt: HostRuntime) -> Result<(), Fail> {
+    for (text, printed) in &ROUTES {
+        let (ended, sink) = run_in(rt.alloc(), 4096, text)?;
+        assert_eq!(rt; ended, 0);
+        assert_eq!(rt; sink.as_slice(), *printed);
+    }
+    Ok(())
+}
 
 /// Events where one session may be open, and what is printed: a client that connects, and a session that begins, too many.
 const TOO_MANY: [(&[u8], &[u8]); 2] = [

@@ -3,6 +3,7 @@
 ghost use Rattle.std.specs.Prelude.{◌≡◌, ◌≤◌, None, IfOk};
 ghost use Rattle.rws_board.specs.Faults.{Rises};
 ghost use Rattle.rws_config.specs.Allowed.{IsAllowed};
+ghost use Rattle.rws_select.specs.Choice.{HasScorer};
 ghost use Rattle.rws_top.specs.Trace.{AnswersTrace, closing, settings_of};
 ghost use Rattle.rws_top.specs.Tracing.{EndsSo, PutsClosing, board_over, end_of};
 ghost use Rattle.rws_trace.specs.ScriptBoards.{ScriptDid};
@@ -12,6 +13,7 @@ ghost use Rattle.rws_worker.specs.Working.{Works};
 use rws_board::{Failed, Sink, Source};
 use rws_config::Config;
 use rws_pool::PoolWords;
+use rws_select::{Load, Selector};
 use rws_trace::{EventReader, ScriptBoard, Side, TraceSettings, bad_line, end_line};
 use rws_wire::Text;
 use rws_worker::{WorkEnd, work_here};
@@ -31,17 +33,19 @@ pub(crate) enum TraceEnd {
 }
 
 /// Runs a worker over the trace of the input, and gives the program's exit status.
-pub(crate) fn trace<I: Source, O: Sink>(
+pub(crate) fn trace<I: Source, O: Sink, F: Fn(&Load) -> u64 + Sync>(
     alloc: Global,
     config: &Config,
     input: &mut I,
     out: &mut O,
+    selector: &Selector<F>,
 ) -> u8
-    requires { IsAllowed config.now }
+    requires allowed { IsAllowed config.now }
+    requires scorer { HasScorer F.Fn selector.now }
     ensures { AnswersTrace config.now (I.left input.old) (I.left input.new) (O.taken out.old) (O.taken out.new)
         (Rises (I.faults input.old) (I.faults input.new)) (Rises (O.faults out.old) (O.faults out.new)) result }
 {
-    match run_script(alloc, config, input, out) {
+    match run_script(alloc, config, input, out, selector) {
         TraceEnd::Closes { events, bad_line } => close(alloc, events, bad_line, out),
         TraceEnd::Unread => 4,
         TraceEnd::Unwritten => 5,
@@ -51,13 +55,15 @@ pub(crate) fn trace<I: Source, O: Sink>(
 }
 
 /// Runs a worker over the script of the input, and puts all but the closing line.
-fn run_script<I: Source, O: Sink>(
+fn run_script<I: Source, O: Sink, F: Fn(&Load) -> u64 + Sync>(
     alloc: Global,
     config: &Config,
     input: &mut I,
     out: &mut O,
+    selector: &Selector<F>,
 ) -> TraceEnd
-    requires { IsAllowed config.now }
+    requires allowed { IsAllowed config.now }
+    requires scorer { HasScorer F.Fn selector.now }
     ensures ends { EndsSo config.now (I.left input.old) (I.left input.new) (O.taken out.old) (O.taken out.new)
         (Rises (I.faults input.old) (I.faults input.new)) (Rises (O.faults out.old) (O.faults out.new)) result }
     ensures kept { O.faults out.old ≤ O.faults out.new }
@@ -66,32 +72,38 @@ fn run_script<I: Source, O: Sink>(
         Ok(reader) => reader,
         Err(AllocError) => return TraceEnd::OutOfMemory,
     };
-    let (end, failed) = work_over(alloc, config, &mut reader, input, out);
+    let (end, failed) = work_over(alloc, config, &mut reader, input, out, selector);
     trace_end(end, failed, &reader)
 }
 
 /// Runs a worker over a board that is lent these three, and tells which side failed.
-fn work_over<I: Source, O: Sink>(
+fn work_over<I: Source, O: Sink, F: Fn(&Load) -> u64 + Sync>(
     alloc: Global,
     config: &Config,
     reader: &mut EventReader,
     input: &mut I,
     out: &mut O,
+    selector: &Selector<F>,
 ) -> (WorkEnd, Option<Side>)
+    requires allowed { IsAllowed config.now }
+    requires scorer { HasScorer F.Fn selector.now }
     ensures works { Works config.now (ScriptDid (board_over I.left I.faults O.taken O.faults reader.old input.old out.old None)
         (board_over I.left I.faults O.taken O.faults reader.new input.new out.new result.1)) result.0 }
 {
     let mut board = ScriptBoard::new(alloc, reader, input, out);
-    let end = work_on(alloc, config, &mut board);
+    let end = work_on(alloc, config, &mut board, selector);
     (end, board.failed())
 }
 
 /// Runs a worker over the board, which afterwards holds what it was lent, and over new words of a pool.
-fn work_on<I: Source, O: Sink>(
+fn work_on<I: Source, O: Sink, F: Fn(&Load) -> u64 + Sync>(
     alloc: Global,
     config: &Config,
     board: &mut ScriptBoard<'_, I, O>,
+    selector: &Selector<F>,
 ) -> WorkEnd
+    requires allowed { IsAllowed config.now }
+    requires scorer { HasScorer F.Fn selector.now }
     ensures reader { board.new.reader.ghost_name ≡ board.old.reader.ghost_name }
     ensures input { board.new.input.ghost_name ≡ board.old.input.ghost_name }
     ensures out { board.new.out.ghost_name ≡ board.old.out.ghost_name }
@@ -99,7 +111,7 @@ fn work_on<I: Source, O: Sink>(
         (state_of I.left I.faults O.taken O.faults board.new)) result }
 {
     let mut words = PoolWords::new(config.gtid_domain);
-    work_here(alloc, board, &mut words, config)
+    work_here(alloc, board, &mut words, config, selector)
 }
 
 /// How the trace ended, from how the worker's work did.

@@ -3,6 +3,7 @@
 #![tactic(auto)]
 
 use rws_board::{ReadSource, SystemFiles, WriteSink};
+use rws_select::Load;
 use rws_top::run_here;
 use std::alloc::{AllocError, Global};
 use std::process::ExitCode;
@@ -18,7 +19,10 @@ fn main(rt: HostRuntime) -> ExitCode {
     let mut out = WriteSink::new(rt.stdout());
     let mut files = SystemFiles::new(&rt);
     match words(&rt, alloc) {
-        Ok(words) => ExitCode::from(run_here(alloc, &words, &mut input, &mut out, &mut files)),
+        Ok(words) => {
+            let score = |load: &Load| u64::from(load.pending) * 65536 + u64::from(load.links);
+            ExitCode::from(run_here(alloc, &words, &mut input, &mut out, &mut files, score))
+        }
         Err(AllocError) => ExitCode::from(OUT_OF_MEMORY),
     }
 }
