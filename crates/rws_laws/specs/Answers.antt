@@ -12,7 +12,7 @@ use Rattle.rws_config.specs.declared.limits.TheConstants.{FLOOD_ROOM, SERVER_PAY
 use Rattle.rws_record.specs.declared.command.Command.{Command}
 use Rattle.rws_record.specs.Item.{Item}
 use Rattle.rws_record.specs.Item.Purpose.{Plays}
-use Rattle.rws_record.specs.Values.{accepted, asked_on, cursor, fronted, goes_on, held, links, kept_on, linked, is_up, exchange, prepared_handle, link_held, pending, sent_on, told, is_over}
+use Rattle.rws_record.specs.Values.{accepted, asked_on, cursor, fronted, goes_on, held, links, linked, is_up, exchange, pinned, prepared_handle, link_held, pending, sent_on, told, is_over}
 use Rattle.rws_laws.specs.Client.{IsAwaited}
 use Rattle.rws_laws.specs.Servers.{came_on}
 use Rattle.rws_laws.specs.Causes.{found_last}
@@ -20,7 +20,7 @@ use Rattle.rws_laws.specs.Causes.{found_last}
 -- What a pending command waits for.
 pub data Waits (config : Config) (command : Command) (past : List Item) : Type 0 where
   -- for a primary: its last route found none, and it was sent nowhere
-  for_primary : kept_on past ≡ None → sent_on past ≡ None → found_last past ≡ Some Nowhere → Waits config command past
+  for_primary : pinned config past ≡ None → sent_on past ≡ None → found_last past ≡ Some Nowhere → Waits config command past
   -- for the link that it is to go on, which isn't prepared: the server's next word is awaited, in the login or on the preamble
   for_link : (link : ℕ) → Contains (links past) link → goes_on config past ≡ Some link → sent_on past ≡ None → is_up link past ≡ false
       → linked link past ≢ Rests → Waits config command past
@@ -43,8 +43,8 @@ pub data IsIdle (link : LinkState) : Type 0 where
 -- What stands in a session that goes on and rests. Nothing that came waits for an answer but the command that its server
 -- has, or is to have, and what the client sent behind it.
 pub record HasAnswered (config : Config) (past : List Item) : Type 0 where
-  -- where it is kept on a link, it has that
-  pub kept : (link : ℕ) → kept_on past ≡ Some link → Contains (links past) link
+  -- where it is pinned to a link, it has that
+  pub stays : (link : ℕ) → pinned config past ≡ Some link → Contains (links past) link
   -- where a command is pending, it waits
   pub waits : (command : Command) → pending past ≡ Some command → Waits config command past
   -- where no command is pending, nothing comes of the client: its bytes begin with no whole payload and no fault

@@ -1,17 +1,20 @@
 -- Why each item of a session's record stands where it stands. This is a second reading of the record: it says what must
 -- have come and what must have been given out below a place, and names no rule by which a session goes on.
-use Rattle.std.specs.Prelude.{◌≡◌, ◌≢◌, ◌⊎◌, ℕ, ◌+◌, ◌<◌, ◌≤◌, length, Bool, true, false, List, [], ◌∷◌, ◌++◌, Option, Some, None, Contains, slice_get}
+use Rattle.std.specs.Prelude.{◌≡◌, ◌≢◌, ◌⊎◌, ◌↔◌, ℕ, ◌+◌, ◌<◌, ◌≤◌, length, Bool, true, false, List, [], ◌∷◌, ◌++◌, Option, Some, None, Contains, slice_get}
 use Rattle.rws_wire.specs.Packets.{number_behind}
 use Rattle.rws_wire.specs.Payloads.{first_payload}
 use Rattle.rws_wire.specs.Payloads.Beginning.{Whole}
 use Rattle.rws_wire.specs.declared.fault.WireFault.{WireFault}
-use Rattle.rws_wire.specs.declared.close_reason.CloseReason.TheVariants.{Quit, Handshake, Access, Connections, OutOfOrder, TooLarge, ResultCut, OutcomeUnknown, SessionState, Memory}
+use Rattle.rws_wire.specs.declared.close_reason.CloseReason.TheVariants.{Quit, Handshake, Access, Connections, OutOfOrder, TooLarge, ResultCut, OutcomeUnknown, SessionState, NotReplayable, Memory}
 use Rattle.rws_wire.specs.declared.close_reason.CloseReason.TheVariants as reasons
 use Rattle.rws_wire.specs.declared.drop_cause.DropCause.TheVariants.{BadWire, BadReply, Unasked, Greeting, Plugin, Login as LoginFails, End, Kept, SessionDiffers}
-use Rattle.rws_msgs.specs.declared.status.TheConstants.{AUTOCOMMIT}
 use Rattle.rws_class.specs.Classes.{class_of}
 use Rattle.rws_class.specs.declared.class.Class.{Class}
-use Rattle.rws_class.specs.declared.class.Class.TheVariants.{Write, Ddl, Session, AutocommitOn, Refused, Other}
+use Rattle.rws_class.specs.declared.class.Class.TheVariants.{Write, Session, Begin, BeginReadOnly, Commit, Rollback, AutocommitOn, AutocommitOff, TrxLocal, Ddl, Refused, Other}
+use Rattle.rws_trx.specs.declared.state.Open.TheVariants.{ReadOnly}
+use Rattle.rws_trx.specs.declared.state.TrxState.{TrxState}
+use Rattle.rws_trx.specs.Transactions.{is_open}
+use Rattle.rws_trx.specs.OnLinks.{status_of}
 use Rattle.rws_reply.specs.declared.kind.Kind.TheVariants.{Query as QueryReply}
 use Rattle.rws_reply.specs.declared.kind.Outcome.{Outcome}
 use Rattle.rws_reply.specs.declared.kind.Outcome.TheVariants.{Done}
@@ -28,7 +31,7 @@ use Rattle.rws_route.specs.declared.destination.Target.TheVariants.{Primary, Rep
 use Rattle.rws_config.specs.declared.config.Config.{Config}
 use Rattle.rws_config.specs.declared.limits.TheConstants.{SERVER_PAYLOAD}
 use Rattle.rws_record.specs.declared.command.Command.{Command}
-use Rattle.rws_record.specs.declared.proxy_error.ProxyError.TheVariants.{UnknownCommand, NotSupported, TooManyConnections, CommandTooLarge, NoPrimary, OutOfMemory}
+use Rattle.rws_record.specs.declared.proxy_error.ProxyError.TheVariants.{UnknownCommand, NotSupported, NotInReadOnly, TooManyConnections, CommandTooLarge, NoPrimary, OutOfMemory}
 use Rattle.rws_record.specs.declared.request.Request.TheVariants as requests
 use Rattle.rws_record.specs.Item.{Item, Put, Recording}
 use Rattle.rws_record.specs.Item.Item.{Accepted, TurnsAway, Began, LinkReady, LinkBytes, LinkLost, Routed, Comes, Connects, Takes, Floods, Puts, Starves}
@@ -37,7 +40,7 @@ use Rattle.rws_record.specs.Item.Tell.{Passes, Owns, Refuses}
 use Rattle.rws_record.specs.Item.Purpose.{Prepares, Asks, Plays}
 use Rattle.rws_record.specs.Item.Recording.{Nothing, Accepts, Keeps}
 use Rattle.rws_record.specs.Requests.{arguments_of, request_of}
-use Rattle.rws_record.specs.Values.{accepted, autocommit, class_of_command, cursor, fronted, goes_on, login_of, links, kept_on, linked, is_up, asked_on, exchange, now, prepared_handle, link_held, pending, routing, sent_on, server_of, told, told_from, is_over, is_starved}
+use Rattle.rws_record.specs.Values.{accepted, class_of_command, cursor, fronted, goes_on, login_of, links, kept_on, linked, is_up, asked_on, exchange, now, prepared_handle, link_held, pending, routing, sent_on, server_of, told, told_from, transaction, transaction_bytes, is_over, is_starved}
 use Rattle.rws_record.specs.Record.{CanBeMade, want_number}
 use Rattle.rws_laws.specs.Client.{Took, IsPending, Flooded, IsSaid, Handed, WasRefused}
 use Rattle.rws_laws.specs.Servers.{came_on, replied, IsNoReply, IsUnasked, IsGarbled, LogsOn, Entered, NotEntered, IsLostFor, IsUnprepared, Lost, WasPrepared, Differs}
@@ -125,6 +128,7 @@ pub record FindsLate (config : Config) (number : ℕ) (past : List Item) : Type 
 pub data SetsSession : Class → Type 0 where
   sets : SetsSession Session
   sets_autocommit : SetsSession AutocommitOn
+  unsets_autocommit : SetsSession AutocommitOff
 
 -- The command has set a session that isn't kept on a link: its reply ended without an error.
 pub record HasSet (command : Command) (outcome : Outcome) (past : List Item) : Type 0 where
@@ -151,11 +155,16 @@ pub data JustKept (config : Config) (link : ℕ) : List Item → Type 0 where
 
 -- What is lost with a link
 
--- a command of this class may have changed something for good, by its own
-pub data MayLast : Class → (autocommit : Bool) → Type 0 where
-  anything : {autocommit : Bool} → MayLast Other autocommit
-  definitions : {autocommit : Bool} → MayLast Ddl autocommit
-  rows : MayLast Write true
+-- A command of this class may have changed something for good: on its own, or as the end of the open transaction.
+pub data MayLast (state : TrxState) : Class → Type 0 where
+  anything : MayLast state Other
+  definitions : MayLast state Ddl
+  rows : is_open state ≡ false → state.autocommit ≡ true → MayLast state Write
+  begins : is_open state ≡ true → MayLast state Begin
+  begins_read_only : is_open state ≡ true → MayLast state BeginReadOnly
+  commits : is_open state ≡ true → MayLast state Commit
+  rolls_back : is_open state ≡ true → MayLast state Rollback
+  autocommits : is_open state ≡ true → MayLast state AutocommitOn
 
 -- the client has a part of the reply that the link was giving
 pub record IsCut (config : Config) (link : ℕ) (command : Command) (past : List Item) : Type 0 where
@@ -167,7 +176,7 @@ pub record IsCut (config : Config) (link : ℕ) (command : Command) (past : List
 pub record IsHidden (config : Config) (link : ℕ) (command : Command) (past : List Item) : Type 0 where
   pub pending : IsPending config command past
   pub sent : sent_on past ≡ Some link
-  pub lasts : MayLast (class_of_command command) (autocommit config past)
+  pub lasts : MayLast (transaction config past).state (class_of_command command)
   pub none : told past ≡ []
 
 -- Memory was wanting just now: the session wasn't made, or else its client was told.
@@ -176,10 +185,27 @@ IsStarvedAndTold past =
     (below : List Item) × (number : ℕ)
     × ((past ≡ Starves false number ∷ below) ⊎ (past ≡ Puts (Tells number (Refuses OutOfMemory)) ∷ Starves true number ∷ below))
 
--- the status in which no transaction is open
-abbrev pub status_by : (autocommit : Bool) → ℕ
-status_by true = AUTOCOMMIT
-status_by false = 0
+-- The open transaction was lost with this link, and no replay is to follow: these are the bytes of its commands and of the pending one,
+-- whether a command of it was answered by an error, whether it is read-only, and that no transaction is replayed.
+pub record IsEnded (config : Config) (link bytes : ℕ) (tainted read_only off : Bool) (past : List Item) : Type 0 where
+  pub open_on : (transaction config past).link ≡ Some link
+  pub counts : bytes ≡ transaction_bytes config past
+  pub had_error : tainted ≡ (transaction config past).state.tainted
+  pub only_reads : (read_only ≡ true) ↔ ((transaction config past).state.opened ≡ ReadOnly)
+  pub is_off : off ≡ true
+
+-- What a read-only transaction doesn't take: a class of command that may change something, and a command that sets the session while
+-- its history has no room for one.
+pub data IsBarred (config : Config) (past : List Item) : Class → Type 0 where
+  writes : IsBarred config past Write
+  begins : IsBarred config past Begin
+  begins_read_only : IsBarred config past BeginReadOnly
+  autocommits : IsBarred config past AutocommitOn
+  collects : IsBarred config past AutocommitOff
+  saves : IsBarred config past TrxLocal
+  defines : IsBarred config past Ddl
+  does_anything : IsBarred config past Other
+  has_no_room : config.history_limit ≤ length (accepted past) → IsBarred config past Session
 
 -- Causes
 
@@ -194,10 +220,10 @@ IsCaused config (Tells number (Passes link command payload (Some outcome) record
 IsCaused config (Tells number (Passes link command payload None Nothing)) past =
     IsPassed config number link command payload past × Begins command.kind (came_on link past)
 IsCaused config (Tells number (Passes link command payload None _)) past = ⊥
--- COM_PING; whether autocommit is on, and no transaction is open
+-- COM_PING; its status shows whether autocommit is on and a transaction open
 IsCaused config (Tells number (Owns status)) past =
     (payload : Payload) × Took config payload number past × (request_of payload ≡ requests.Ping)
-    × (status ≡ status_by (autocommit config past))
+    × (status ≡ status_of (transaction config past).state)
 IsCaused config (Tells number (Refuses UnknownCommand)) past =
     (payload : Payload) × Took config payload number past × (request_of payload ≡ requests.Unknown)
 -- a command that the proxy doesn't take, or a text that sets what mayn't be set
@@ -205,6 +231,11 @@ IsCaused config (Tells number (Refuses NotSupported)) past =
     (payload : Payload) × Took config payload number past
     × ((request_of payload ≡ requests.Unsupported)
     ⊎ ((request_of payload ≡ requests.Query) × (class_of (arguments_of payload) ≡ Refused)))
+-- a text, or a database to be chosen, that the read-only transaction which is open doesn't take
+IsCaused config (Tells number (Refuses NotInReadOnly)) past =
+    (payload : Payload) × Took config payload number past × ((transaction config past).state.opened ≡ ReadOnly)
+    × (((request_of payload ≡ requests.Query) × IsBarred config past (class_of (arguments_of payload)))
+    ⊎ ((request_of payload ≡ requests.InitDb) × IsBarred config past Session))
 -- a client that connected was turned away, and nothing more stands in its record
 IsCaused config (Tells number (Refuses TooManyConnections)) past = (past ≡ TurnsAway true ∷ []) × (number ≡ 0)
 IsCaused config (Tells number (Refuses CommandTooLarge)) past = (bytes : ℕ) × Flooded config bytes past × (number ≡ 1)
@@ -227,7 +258,7 @@ IsCaused config (Sends link Prepares) past = Contains (links past) link × (is_u
 IsCaused config (Sends link (Plays command)) past =
     Contains (links past) link × (is_up link past ≡ true) × WasPrepared link past × (linked link past ≡ Rests)
     × (slice_get (accepted past) (cursor link past) ≡ Some command)
--- the client's command, on the link that the session is kept on, or that its last route gave, where that is prepared and has played
+-- the client's command, on the link that the session is pinned to, or that its last route gave, where that is prepared and has played
 -- the history, and the command isn't out on a link that the session has
 IsCaused config (Sends link (Asks command)) past =
     IsPending config command past × (sent_on past ≡ None) × (goes_on config past ≡ Some link) × Contains (links past) link
@@ -254,6 +285,11 @@ IsCaused config (Closes OutcomeUnknown) past =
 IsCaused config (Closes SessionState) past =
     (link : ℕ) × (below : List Item) × Lost link below past × (kept_on below ≡ Some link)
     × ((command : Command) → ¬ IsCut config link command below) × ((command : Command) → ¬ IsHidden config link command below)
+-- none of the three, but the transaction was open there
+IsCaused config (Closes (NotReplayable bytes tainted read_only off)) past =
+    (link : ℕ) × (below : List Item) × Lost link below past × IsEnded config link bytes tainted read_only off below
+    × (kept_on below ≢ Some link) × ((command : Command) → ¬ IsCut config link command below)
+    × ((command : Command) → ¬ IsHidden config link command below)
 IsCaused config (Closes Memory) past = IsStarvedAndTold past
 IsCaused config (Closes _) past = ⊥
 IsCaused config (Drops link BadWire) past =

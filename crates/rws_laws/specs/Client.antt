@@ -31,6 +31,7 @@ use Rattle.rws_record.specs.Item.Judged.{Serves}
 use Rattle.rws_record.specs.Item.Put.{Hands}
 use Rattle.rws_record.specs.Judging.{judged}
 use Rattle.rws_record.specs.Values.{fronted, held, pending}
+use Rattle.rws_record.specs.Rules.{context}
 
 -- what the client's bytes begin with, whose next packet is to have this number
 abbrev pub begins_with : Config → Fronting → (first : ℕ) → Beginning
@@ -43,12 +44,12 @@ begins_with config front first = first_payload config.command_bytes first front.
 pub data Took (config : Config) (payload : List ℕ) (number : ℕ) : List Item → Type 0 where
   took : {past : List Item} {rest : List ℕ} → pending past ≡ None → (fronted config past).phase ≡ Commands
       → begins_with config (fronted config past) 0 ≡ Whole payload number rest
-      → Took config payload number (Takes (judged payload number) number ∷ past)
+      → Took config payload number (Takes (judged (context config past) payload number) number ∷ past)
 
 -- the command was taken up from the client's bytes, and is one for a server
 pub data Asked (config : Config) (command : Command) : List Item → Type 0 where
-  here : {past : List Item} → Took config command.payload command.number past
-      → judged command.payload command.number ≡ Serves command → Asked config command past
+  here : {past : List Item} → Took config command.payload command.number (Takes (Serves command) command.number ∷ past)
+      → Asked config command (Takes (Serves command) command.number ∷ past)
   before : {item : Item} {past : List Item} → Asked config command past → Asked config command (item ∷ past)
 
 -- the client's command that isn't answered yet

@@ -1,18 +1,21 @@
 -- Laws about records and runs. Each is carried by a public function whose contract is the law.
-use Rattle.std.specs.Prelude.{◌≡◌, ◌≢◌, ℕ, false, List, [], ◌∷◌, ◌++◌, length, Some, None, Contains}
+use Rattle.std.specs.Prelude.{◌≡◌, ◌≢◌, ◌⊎◌, ℕ, ◌-◌, ◌^◌, min, false, List, [], ◌∷◌, ◌++◌, length, Option, Some, None, Contains}
 use Rattle.rws_wire.specs.Numbers.{AreBytes}
 use Rattle.rws_reply.specs.declared.kind.Outcome.{Outcome}
 use Rattle.rws_reply.specs.Replies.{Payload, IsReply}
 use Rattle.rws_reply.specs.ClientForm.{without_state}
 use Rattle.rws_route.specs.declared.destination.Target.{Target}
+use Rattle.rws_route.specs.declared.destination.Target.TheVariants.{Primary}
+use Rattle.rws_trx.specs.declared.state.Open.TheVariants.{ReadWrite}
 use Rattle.rws_config.specs.declared.config.Config.{Config}
 use Rattle.rws_record.specs.declared.command.Command.{Command}
 use Rattle.rws_record.specs.Item.{Item, Purpose, Recording}
-use Rattle.rws_record.specs.Item.Item.{LinkBytes, Puts}
+use Rattle.rws_record.specs.Item.Item.{LinkBytes, Routed, Puts}
 use Rattle.rws_record.specs.Item.Purpose.{Asks, Plays}
-use Rattle.rws_record.specs.Item.Put.{Sends, Tells}
+use Rattle.rws_record.specs.Item.Put.{Routes, Sends, Tells}
 use Rattle.rws_record.specs.Item.Tell.{Passes}
-use Rattle.rws_record.specs.Values.{accepted, asking, cursor, kept_on, links, server_of, told}
+use Rattle.rws_record.specs.Values.{accepted, asking, cursor, kept_on, links, pinned, server_of, told, transaction}
+use Rattle.rws_record.specs.Log.{log, total}
 use Rattle.rws_record.specs.Rules.{next}
 use Rattle.rws_record.specs.Record.{IsRecord}
 use Rattle.rws_record.specs.Run.{Entry, IsRun, next_entry, record_of}
@@ -94,10 +97,41 @@ OneLinkEach =
     (config : Config) (past : List Item) → IsRecord config past → (one other : ℕ) → Contains (links past) one → Contains (links past) other
     → server_of one past ≡ server_of other past → one ≡ other
 
--- In a session that isn't kept on a link, a client's command goes to the server that its last route found. That holds where the
+-- In a session that isn't pinned to a link, a client's command goes to the server that its last route found. That holds where the
 -- settings have an account, so that each session has a login for its links.
 abbrev pub GoesWhereFound : Type 0
 GoesWhereFound =
     (config : Config) (past : List Item) (link : ℕ) (command : Command) → config.accounts ≢ []
-    → IsRecord config (Puts (Sends link (Asks command)) ∷ past) → kept_on past ≡ None
+    → IsRecord config (Puts (Sends link (Asks command)) ∷ past) → pinned config past ≡ None
     → (found : Target) × (found_last past ≡ Some found) × IsAt (server_of link past) found
+
+-- While a transaction is open, and while the session is kept on a link, the client's commands go on one link.
+abbrev pub StaysOnItsLink : Type 0
+StaysOnItsLink =
+    (config : Config) (past : List Item) (link there : ℕ) (command : Command) → IsRecord config (Puts (Sends link (Asks command)) ∷ past)
+    → ((transaction config past).link ≡ Some there) ⊎ (kept_on past ≡ Some there) → link ≡ there
+
+-- what the session's last route found
+abbrev pub found_lately : List Item → Option Target
+found_lately [] = None
+found_lately (Routed words loads next found ∷ past) = Some found
+found_lately (_ ∷ past) = found_lately past
+
+-- One that may write is open at the server that the last route gave as primary. That route was before its first command, since none is
+-- taken while the session is pinned.
+abbrev pub WritesAtPrimary : Type 0
+WritesAtPrimary =
+    (config : Config) (past : List Item) (link : ℕ) → config.accounts ≢ [] → IsRecord config past
+    → (transaction config past).link ≡ Some link → (transaction config past).state.opened ≡ ReadWrite
+    → found_lately past ≡ Some (Primary (server_of link past))
+
+-- no route is taken in a session that is pinned to a link
+abbrev pub PinnedTakesNoRoute : Type 0
+PinnedTakesNoRoute =
+    (config : Config) (past : List Item) → IsRecord config (Puts Routes ∷ past) → pinned config past ≡ None
+
+-- How many bytes count for a transaction is how many its log has, as far as can be counted.
+abbrev pub CountsItsLog : Type 0
+CountsItsLog =
+    (config : Config) (past : List Item) → IsRecord config past
+    → (transaction config past).bytes ≡ min (total (log config past)) (2 ^ 64 - 1)

@@ -1,11 +1,7 @@
 -- What is found in a table of links.
 use Rattle.std.specs.Prelude.{ℕ, nat_lt, Bool, true, false, ◌==◌, ◌&&◌, List, [], ◌∷◌, Option, Some, None, if◌then◌else◌}
 use Rattle.rws_link.specs.Linking.{Linking, Ready, is_awaiting}
-use Rattle.rws_reply.specs.declared.kind.Outcome.{Outcome}
-use Rattle.rws_reply.specs.declared.kind.Outcome.TheVariants.{Done, Failed}
-use Rattle.rws_routing.specs.declared.routing.Routing.{Routing}
 use Rattle.rws_routing.specs.Routings.{is_at}
-use Rattle.rws_record.specs.Values.{autocommit_by, speaks}
 use Rattle.rws_links.specs.declared.finding.Due.{Due}
 use Rattle.rws_links.specs.declared.numbered.Asked.{Asked}
 use Rattle.rws_links.specs.declared.numbered.Asked.TheVariants.{Preamble, Entry as AnEntry, Command as ACommand}
@@ -48,10 +44,3 @@ or_behind None link entry behind = behind
 abbrev pub first_due : (goes : Option ℕ) → (entries : ℕ) → List NumberedLink → Option Due
 first_due goes entries [] = None
 first_due goes entries (link ∷ others) = or_behind (due_on goes entries link) link.number link.cursor (first_due goes entries others)
-
--- What a link is to its session
-
--- whether autocommit is on behind the end of a reply that a link gave
-abbrev pub autocommit_behind : (kept : Option ℕ) → Routing → (link : ℕ) → Outcome → (before : Bool) → Bool
-autocommit_behind kept routing link (Done status) before = autocommit_by (speaks kept link routing) status before
-autocommit_behind kept routing link (Failed code) before = before

@@ -1,13 +1,14 @@
-//! A command of the client, with the class that it counts as.
-ghost use Rattle.std.specs.Prelude.{◌≡◌};
+//! A command of the client, with its class.
+ghost use Rattle.std.specs.Prelude.{◌≡◌, Some};
 ghost use Rattle.rws_record.specs.Judging.{is_forbidden};
 ghost use Rattle.rws_record.specs.Requests.{class_by, request_of};
-ghost use Rattle.rws_record.specs.Rules.{sends_again};
-ghost use Rattle.rws_record.specs.Values.{class_of_command, counted, is_session, keeps};
+ghost use Rattle.rws_record.specs.Rules.{again_by};
+ghost use Rattle.rws_record.specs.Values.{class_of_command, is_session, keeps, length_by};
 
 use rws_class::Class;
 use rws_record::Command;
 use rws_reply::Kind;
+use rws_trx::TrxState;
 use rws_wire::Text;
 use std::marker::Model;
 
@@ -42,7 +43,7 @@ impl ClassedCommand {
                 kind,
                 number,
             },
-            class: counted(class),
+            class,
         }
     }
 
@@ -53,7 +54,7 @@ impl ClassedCommand {
         &self.command
     }
 
-    /// The class that it counts as.
+    /// Its class.
     pub fn class(&self) -> Class
         ensures { result ≡ class_of_command self.now }
     {
@@ -81,27 +82,18 @@ impl ClassedCommand {
         self.command
     }
 
-    /// It may be sent again where it was sent on a link that is lost.
-    pub fn sends_again(&self, autocommit: bool) -> bool
-        ensures { result ≡ sends_again (class_of_command self.now) autocommit }
+    /// How long it is, in bytes, its command byte included.
+    pub fn bytes(&self) -> u64
+        ensures { result ≡ length_by (Some self.now) }
     {
-        sends_again(self.class, autocommit)
+        self.command.payload.len() as u64
     }
-}
 
-/// The class that a class counts as.
-fn counted(class: Class) -> Class
-    ensures { result ≡ counted class }
-{
-    match class {
-        Class::Read
-        | Class::PrimaryRead
-        | Class::Write
-        | Class::Ddl
-        | Class::Session
-        | Class::AutocommitOn
-        | Class::Refused => class,
-        _ => Class::Other,
+    /// It may be sent again where it was sent on a link that is lost, and the transaction stands so.
+    pub fn sends_again(&self, state: TrxState) -> bool
+        ensures { result ≡ again_by (Some self.now) state }
+    {
+        state.sends_again(self.class)
     }
 }
 
@@ -116,18 +108,10 @@ fn keeps(class: Class) -> bool
 fn is_session(class: Class) -> bool
     ensures { result ≡ is_session class }
 {
-    matches!(class, Class::Session | Class::AutocommitOn)
-}
-
-/// A command of this class may be sent again.
-fn sends_again(class: Class, autocommit: bool) -> bool
-    ensures { result ≡ sends_again class autocommit }
-{
-    match class {
-        Class::Other | Class::Ddl => false,
-        Class::Write => !autocommit,
-        _ => true,
-    }
+    matches!(
+        class,
+        Class::Session | Class::AutocommitOn | Class::AutocommitOff
+    )
 }
 
 /// A text of this class isn't sent to any server.

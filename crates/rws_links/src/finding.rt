@@ -2,15 +2,11 @@
 //! is to its session.
 ghost use Rattle.std.specs.Prelude.{◌≡◌, count_by};
 ghost use Rattle.rws_record.specs.Rules.{is_link};
-ghost use Rattle.rws_record.specs.Values.{speaks};
 ghost use Rattle.rws_routing.specs.Routings.{server_in};
-ghost use Rattle.rws_links.specs.Finding.{autocommit_behind, due_on, first_due, first_to, leads_to, owes_to};
+ghost use Rattle.rws_links.specs.Finding.{due_on, first_due, first_to, leads_to, owes_to};
 
 use crate::{Asked, NumberedLink};
-use rws_msgs::status::AUTOCOMMIT;
-use rws_reply::Outcome;
 use rws_route::Target;
-use rws_routing::Routing;
 
 /// What may be sent now.
 #[derive(Clone, Copy, Debug, PartialEq, Eq)]
@@ -110,38 +106,6 @@ pub fn is_link(link: u64, kept: Option<u64>) -> bool
     match kept {
         Some(other) => other == link,
         None => false,
-    }
-}
-
-/// Whether autocommit is on behind a reply that ended so on this link: as the reply says, if it speaks of the session, which is
-/// kept there, or isn't kept and sent the command to the primary.
-pub fn autocommit_behind(
-    kept_on: Option<u64>,
-    routing: Routing,
-    link: u64,
-    outcome: Outcome,
-    before: bool,
-) -> bool
-    ensures { result ≡ autocommit_behind kept_on routing link outcome before }
-{
-    match outcome {
-        Outcome::Done { status } => {
-            if speaks(kept_on, link, routing) {
-                return status & AUTOCOMMIT != 0;
-            }
-            before
-        }
-        Outcome::Failed { code: _ } => before,
-    }
-}
-
-/// A reply on this link speaks of its session's state.
-fn speaks(kept_on: Option<u64>, link: u64, routing: Routing) -> bool
-    ensures { result ≡ speaks kept_on link routing }
-{
-    match kept_on {
-        Some(kept) => kept == link,
-        None => routing.goes_to_primary(),
     }
 }
 

@@ -11,16 +11,21 @@ mod loss;
 mod numbered;
 mod own;
 mod table;
+mod transaction;
 
 pub use coming::Coming;
 pub use command::{ClassedCommand, is_forbidden};
-pub use finding::{Count, Due, autocommit_behind, is_link, server_in};
+pub use finding::{Count, Due, is_link, server_in};
 pub use history::Recording;
 pub use login::LinkLogin;
 pub use loss::{closing, drop_cause, is_loss};
 pub use numbered::{Asked, NumberedLink};
-pub use own::{own_ok, own_status, reserve_farewell};
+pub use own::{own_ok, reserve_farewell};
 pub use table::LinkTable;
+pub use transaction::{
+    answered_by, changes, class_by_pending, not_replayable, pending_bytes, sends_again,
+    sets_session,
+};
 
 #[cfg(test)]
 mod tests;

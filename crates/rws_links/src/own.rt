@@ -5,19 +5,10 @@ ghost use Rattle.rws_msgs.specs.ErrLayout.{err_bytes};
 ghost use Rattle.rws_record.specs.declared.proxy_error.ProxyError.TheVariants.{OutOfMemory};
 ghost use Rattle.rws_record.specs.Errors.{error_of};
 ghost use Rattle.rws_record.specs.Outputs.{own_ok};
-ghost use Rattle.rws_record.specs.Rules.{own_status};
 
-use rws_msgs::status::AUTOCOMMIT;
 use rws_record::ProxyError;
 use rws_wire::frame;
 use std::alloc::{AllocError, Global};
-
-/// The status of the proxy's own OKs: whether autocommit is on; no transaction is open.
-pub fn own_status(autocommit: bool) -> u16
-    ensures { result ≡ own_status autocommit }
-{
-    if autocommit { AUTOCOMMIT } else { 0 }
-}
 
 /// OK_Packet: nothing affected, no insert id, this status, no warnings.
 #[tactic(auto, unfolding(rws_msgs::specs::OkLayout::ok_bytes, rws_msgs::specs::OkLayout::texts_bytes, rws_wire::specs::Lenenc::lenenc_bytes))]

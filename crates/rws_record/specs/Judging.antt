@@ -1,7 +1,7 @@
 -- What a command of the client is taken for.
-use Rattle.std.specs.Prelude.{ℕ, Bool, true, false, List, Option, Some, None, if◌then◌else◌}
+use Rattle.std.specs.Prelude.{ℕ, Bool, true, false, ◌&&◌, List, Option, Some, None, if◌then◌else◌}
 use Rattle.rws_class.specs.declared.class.Class.{Class}
-use Rattle.rws_class.specs.declared.class.Class.TheVariants.{Refused}
+use Rattle.rws_class.specs.declared.class.Class.TheVariants.{Read, PrimaryRead, Session, Commit, Rollback, Refused}
 use Rattle.rws_reply.specs.declared.kind.Kind.TheVariants.{Simple, Query as QueryReply, FieldList as FieldListReply}
 use Rattle.rws_record.specs.declared.proxy_error.ProxyError.{ProxyError}
 use Rattle.rws_record.specs.declared.proxy_error.ProxyError.TheVariants.{UnknownCommand, NotSupported, UnknownStatement, BadExecute, TooManyStatements, NotInReadOnly}
@@ -45,8 +45,7 @@ abbrev pub is_forbidden : Class → Bool
 is_forbidden Refused = true
 is_forbidden _ = false
 
--- Prepared statements and transactions aren't looked at yet: no command names a statement, or stands in a read-only
--- transaction.
+-- Prepared statements aren't looked at yet: no command names one.
 abbrev pub names_no_statement : Bool
 names_no_statement = false
 
@@ -59,13 +58,42 @@ is_malformed = false
 abbrev pub has_too_many_statements : Bool
 has_too_many_statements = false
 
-abbrev pub changes_in_read_only : Bool
-changes_in_read_only = false
+-- what a command is judged by, beside its own bytes
+pub record Context : Type 0 where
+  -- a read-only transaction is open
+  pub read_only : Bool
+  -- the session's history has no room for an entry
+  pub full : Bool
 
-abbrev pub refusal_of : Request → Class → Option ProxyError
-refusal_of request class =
+-- A command of this class may change something that a read-only transaction mustn't, or can't be repeated where the history is full.
+abbrev pub changes : (full : Bool) → Class → Bool
+changes full Read = false
+changes full PrimaryRead = false
+changes full Commit = false
+changes full Rollback = false
+changes full Session = full
+changes full _ = true
+
+-- a server is to answer it
+abbrev pub is_for_server : Request → Bool
+is_for_server Query = true
+is_for_server FieldList = true
+is_for_server InitDb = true
+is_for_server _ = false
+
+-- a command that changes something, in a read-only transaction
+abbrev pub changes_in_read_only : Context → Request → Class → Bool
+changes_in_read_only context request class = is_for_server request && (context.read_only && changes context.full class)
+
+-- why a command of this class, which is for a server, is refused
+abbrev pub class_refusal : Context → Class → Option ProxyError
+class_refusal context class =
+    refusal_by false false false false false false (is_forbidden class) (context.read_only && changes context.full class)
+
+abbrev pub refusal_of : Context → Request → Class → Option ProxyError
+refusal_of context request class =
     refusal_by (is_unknown request) (is_unsupported request) names_no_statement asks_for_cursor is_malformed
-    has_too_many_statements (is_forbidden class) changes_in_read_only
+    has_too_many_statements (is_forbidden class) (changes_in_read_only context request class)
 
 -- what a command is taken for that nothing refuses
 abbrev pub accepted_as : Request → List ℕ → ℕ → Judged
@@ -82,14 +110,9 @@ judged_by (Some error) request payload number = IsRefused error
 judged_by None request payload number = accepted_as request payload number
 
 -- the same of a request of this class
-abbrev pub judged_as : Request → Class → List ℕ → ℕ → Judged
-judged_as request class payload number = judged_by (refusal_of request class) request payload number
-
--- a query of which it is known whether its text is forbidden
-abbrev pub query_judged : (forbidden : Bool) → List ℕ → ℕ → Judged
-query_judged forbidden payload number =
-    judged_by (refusal_by false false false false false false forbidden false) Query payload number
+abbrev pub judged_as : Context → Request → Class → List ℕ → ℕ → Judged
+judged_as context request class payload number = judged_by (refusal_of context request class) request payload number
 
 -- a command of these bytes, whose reply begins with this number
-abbrev pub judged : List ℕ → ℕ → Judged
-judged payload number = judged_as (request_of payload) (class_by (request_of payload) payload) payload number
+abbrev pub judged : Context → List ℕ → ℕ → Judged
+judged context payload number = judged_as context (request_of payload) (class_by (request_of payload) payload) payload number

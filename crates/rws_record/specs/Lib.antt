@@ -2,6 +2,7 @@ pub mod Item
 pub mod Requests
 pub mod Judging
 pub mod Values
+pub mod Log
 pub mod Rules
 pub mod Record
 pub mod Errors

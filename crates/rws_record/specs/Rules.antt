@@ -4,6 +4,7 @@
 -- Rules come in two levels: a function of plain values, and one line that fills in the values of a record.
 use Rattle.std.specs.Prelude.{ℕ, ◌+◌, nat_lt, Bool, true, false, not, ◌&&◌, ◌==◌, List, [], ◌∷◌, ◌++◌, length, map, drop, Option, Some, None, is_some, slice_get, if◌then◌else◌}
 use Rattle.std.specs.Option.{option_map}
+use Rattle.rws_wire.specs.declared.close_reason.CloseReason.{CloseReason}
 use Rattle.rws_wire.specs.declared.close_reason.CloseReason.TheVariants as reasons
 use Rattle.rws_wire.specs.declared.drop_cause.DropCause.{DropCause}
 use Rattle.rws_wire.specs.declared.drop_cause.DropCause.TheVariants as causes
@@ -24,7 +25,11 @@ use Rattle.rws_link.specs.declared.step.LinkStep.{LinkStep}
 use Rattle.rws_link.specs.declared.step.LinkStep.TheVariants as steps
 use Rattle.rws_link.specs.Stepping.{LinkState, LogsIn, Rests, Awaits, IsLost, step}
 use Rattle.rws_class.specs.declared.class.Class.{Class}
-use Rattle.rws_class.specs.declared.class.Class.TheVariants.{Write, Ddl, Other}
+use Rattle.rws_trx.specs.declared.state.Open.{Open}
+use Rattle.rws_trx.specs.declared.state.Open.TheVariants.{Nothing as IsNone, ReadWrite, ReadOnly}
+use Rattle.rws_trx.specs.declared.state.TrxState.{TrxState}
+use Rattle.rws_trx.specs.Transactions.{leaves_unknown}
+use Rattle.rws_trx.specs.OnLinks.{status_of}
 use Rattle.rws_pool.specs.declared.words.PoolWords.{PoolWords}
 use Rattle.rws_select.specs.declared.selector.Load.{Load}
 use Rattle.rws_route.specs.declared.destination.Target.{Target}
@@ -42,8 +47,8 @@ use Rattle.rws_record.specs.Item.Put.{Hands, Tells, Routes, Opens, LogsInto, Sen
 use Rattle.rws_record.specs.Item.Tell.{Passes, Owns, Refuses}
 use Rattle.rws_record.specs.Item.Purpose.{Prepares, Asks, Plays}
 use Rattle.rws_record.specs.Item.Recording.{Nothing, Accepts, Keeps}
-use Rattle.rws_record.specs.Judging.{judged}
-use Rattle.rws_record.specs.Values.{accepted, autocommit, banned, class_by_pending, cursor, is_session, class_of_command, fronted, goes_on, held, keeps, login_of, links, link_to, contains, without, kept_on, linked, is_up, asked_on, now, prepared_handle, pending, routing, sent_on, told_from, reply_number, asking, is_over}
+use Rattle.rws_record.specs.Judging.{Context, judged}
+use Rattle.rws_record.specs.Values.{accepted, banned, class_by_pending, cursor, is_session, class_of_command, fronted, goes_on, held, keeps, login_of, links, link_to, contains, without, kept_on, linked, is_up, asked_on, now, prepared_handle, pending, routing, sent_on, told_from, reply_number, transaction, transaction_bytes, asking, is_over}
 
 abbrev pub is_link : ℕ → Option ℕ → Bool
 is_link link (Some other) = other == link
@@ -81,23 +86,16 @@ loss_by told sent again kept opened replayable assigned =
     else (if assigned then SendsElsewhere
     else IsForgotten)))))
 
--- No transaction is open: they aren't looked at yet.
-abbrev pub has_transaction : Bool
-has_transaction = false
+-- Replays aren't built: whatever the settings say, no transaction is replayed.
+abbrev pub is_replay_off : Bool
+is_replay_off = true
 
 abbrev pub is_replayable : Bool
-is_replayable = false
+is_replayable = not is_replay_off
 
--- What may be sent again after the loss of its link, outside of a transaction: not what may have changed something for good.
-abbrev pub sends_again : Class → (autocommit : Bool) → Bool
-sends_again Other autocommit = false
-sends_again Ddl autocommit = false
-sends_again Write autocommit = not autocommit
-sends_again class autocommit = true
-
-abbrev pub again_by : Option Command → (autocommit : Bool) → Bool
-again_by (Some command) autocommit = sends_again (class_of_command command) autocommit
-again_by None autocommit = true
+abbrev pub again_by : Option Command → TrxState → Bool
+again_by (Some command) state = not (leaves_unknown (class_of_command command) state)
+again_by None state = true
 
 abbrev pub goes_if : Option Command → Option ℕ → Option ℕ
 goes_if (Some command) link = link
@@ -105,22 +103,33 @@ goes_if None link = None
 
 abbrev pub loss_of : Config → ℕ → List Item → Loss
 loss_of config link past =
-    loss_by (is_link link (told_from past)) (is_link link (sent_on past)) (again_by (pending past) (autocommit config past))
-    (is_link link (kept_on past)) has_transaction is_replayable (is_link link (goes_if (pending past) (goes_on config past)))
+    loss_by (is_link link (told_from past)) (is_link link (sent_on past)) (again_by (pending past) (transaction config past).state)
+    (is_link link (kept_on past)) (is_link link (transaction config past).link) is_replayable
+    (is_link link (goes_if (pending past) (goes_on config past)))
 
--- Replays aren't built yet, and nothing leads to them: no transaction counts as open. A command that goes elsewhere is routed
--- anew, which is due.
-abbrev pub after_loss_by : Loss → List Put
-after_loss_by CutsReply = Closes reasons.ResultCut ∷ []
-after_loss_by HidesOutcome = Closes reasons.OutcomeUnknown ∷ []
-after_loss_by TakesState = Closes reasons.SessionState ∷ []
-after_loss_by EndsTransaction = []
-after_loss_by StartsReplay = []
-after_loss_by SendsElsewhere = []
-after_loss_by IsForgotten = []
+abbrev pub is_read_only : Open → Bool
+is_read_only IsNone = false
+is_read_only ReadWrite = false
+is_read_only ReadOnly = true
+
+-- why a transaction can't be replayed
+abbrev pub not_replayable : (bytes : ℕ) → TrxState → CloseReason
+not_replayable bytes state = reasons.NotReplayable bytes state.tainted (is_read_only state.opened) is_replay_off
+
+-- `ends` is the reason to close where a transaction is lost with the link. Nothing starts a replay yet. A command that goes
+-- elsewhere is routed anew, which is due.
+abbrev pub after_loss_by : Loss → (ends : CloseReason) → List Put
+after_loss_by CutsReply ends = Closes reasons.ResultCut ∷ []
+after_loss_by HidesOutcome ends = Closes reasons.OutcomeUnknown ∷ []
+after_loss_by TakesState ends = Closes reasons.SessionState ∷ []
+after_loss_by EndsTransaction ends = Closes ends ∷ []
+after_loss_by StartsReplay ends = []
+after_loss_by SendsElsewhere ends = []
+after_loss_by IsForgotten ends = []
 
 abbrev pub after_loss : Config → ℕ → List Item → List Put
-after_loss config link past = after_loss_by (loss_of config link past)
+after_loss config link past =
+    after_loss_by (loss_of config link past) (not_replayable (transaction_bytes config past) (transaction config past).state)
 
 -- to give a link up is to lose it, but for those that aren't needed any more
 abbrev pub is_loss : DropCause → Bool
@@ -134,11 +143,6 @@ is_loss _ = true
 -- a session that ends gives up its links, in order of number
 abbrev pub farewells : List Item → List Put
 farewells past = map (λ link. Drops link End) (links past)
-
--- the status of the proxy's own OK: whether autocommit is on; no transaction is open
-abbrev pub own_status : (autocommit : Bool) → ℕ
-own_status true = 0x0002
-own_status false = 0
 
 abbrev pub after_command : Judged → ℕ → (status : ℕ) → List Put
 after_command Leaves number status = Closes reasons.Quit ∷ []
@@ -182,7 +186,8 @@ is_sent_back = false
 -- where the pending command is to go, by these words and loads
 abbrev pub found_in : Config → List Item → PoolWords → List Load → Target
 found_in config past words loads =
-    target_of (class_by_pending (pending past)) (autocommit config past) is_sent_back words loads (routing config past).tried (banned past)
+    target_of (class_by_pending (pending past)) (transaction config past).state.autocommit is_sent_back words loads
+    (routing config past).tried (banned past)
 
 -- The client sent on too far behind a command that isn't answered. It is told in a packet of number 1.
 abbrev pub after_flood : ℕ → List Put
@@ -199,6 +204,10 @@ after_answer link command form More behind number recording = Tells number (Pass
 after_answer link command form (Ends outcome) behind number recording =
     Tells number (Passes link command form (Some outcome) (recording outcome)) ∷ unasked link behind
 
+-- the history has no room for an entry
+abbrev pub is_full : Config → List Item → Bool
+is_full config past = not (nat_lt (length (accepted past)) config.history_limit)
+
 -- A command that sets the session, without an error, is added to the history; where that is full, the session is kept.
 abbrev pub recording_by : (sets kept full : Bool) → Outcome → Recording
 recording_by true false false (Done status) = Accepts
@@ -207,8 +216,7 @@ recording_by _ _ _ _ = Nothing
 
 abbrev pub recording_of : Config → List Item → Outcome → Recording
 recording_of config past outcome =
-    recording_by (is_session (class_by_pending (pending past))) (is_some (kept_on past))
-    (not (nat_lt (length (accepted past)) config.history_limit)) outcome
+    recording_by (is_session (class_by_pending (pending past))) (is_some (kept_on past)) (is_full config past) outcome
 
 -- an entry of the history was played, or its server answers it otherwise
 abbrev pub after_played : ℕ → Progress → (behind : Bool) → List Put
@@ -274,7 +282,8 @@ response config (Routed words loads next found) past =
     (finds_late config.primary_wait_ms (now past) (routing config past)) (reply_number past)
 response config (Comes link said) past = after_coming config link said (asked_on link past) (reply_number past) past
 response config (Connects said) past = after_connecting said
-response config (Takes judged number) past = after_command judged number (own_status (autocommit config past))
+-- the proxy's own OK shows whether autocommit is on and a transaction open
+response config (Takes judged number) past = after_command judged number (status_of (transaction config past).state)
 response config (Floods held) past = after_flood held
 response config (Starves made number) past = after_want (is_over past) made number (farewells past)
 response config (Puts put) past = []
@@ -380,21 +389,25 @@ abbrev pub due_arrival : List ℕ → List Item → Option Item
 due_arrival [] past = None
 due_arrival (link ∷ others) past = coming link (step (linked link past)).answer or due_arrival others past
 
+-- what a command is judged by that comes now
+abbrev pub context : Config → List Item → Context
+context config past = record { read_only = is_read_only (transaction config past).state.opened; full = is_full config past }
+
 -- what comes of the client
-abbrev pub taking : FrontStep → Option Item
-taking fronts.Idle = None
-taking (fronts.Send packets) = Some (Connects (fronts.Send packets))
-taking (fronts.LoggedIn login) = Some (Connects (fronts.LoggedIn login))
-taking (fronts.Command payload) = Some (Takes (judged payload.bytes payload.next) payload.next)
-taking (fronts.End packets reason) = Some (Connects (fronts.End packets reason))
+abbrev pub taking : Context → FrontStep → Option Item
+taking now fronts.Idle = None
+taking now (fronts.Send packets) = Some (Connects (fronts.Send packets))
+taking now (fronts.LoggedIn login) = Some (Connects (fronts.LoggedIn login))
+taking now (fronts.Command payload) = Some (Takes (judged now payload.bytes payload.next) payload.next)
+taking now (fronts.End packets reason) = Some (Connects (fronts.End packets reason))
 
 -- the client is read on once the command before is answered
-abbrev pub take_by : Option Command → FrontStep → Option Item
-take_by None said = taking said
-take_by (Some command) said = None
+abbrev pub take_by : Context → Option Command → FrontStep → Option Item
+take_by now None said = taking now said
+take_by now (Some command) said = None
 
 abbrev pub due_take : Config → List Item → Option Item
-due_take config past = take_by (pending past) (step_of config.accounts (fronted config past)).0
+due_take config past = take_by (context config past) (pending past) (step_of config.accounts (fronted config past)).0
 
 -- A command that was just taken up is routed and sent before the bytes behind it are counted, so one piece of bytes and two
 -- give the same.

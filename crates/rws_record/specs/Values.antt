@@ -1,16 +1,20 @@
 -- What a record says. Each value is read from the items alone, newest first, and is a function of its own; a value of a
 -- link takes the link's number.
-use Rattle.std.specs.Prelude.{ℕ, ◌+◌, Bool, true, false, not, ◌&&◌, ◌||◌, List, [], ◌∷◌, ◌++◌, filter, ◌==◌, Option, Some, None, codes, is_none, if◌then◌else◌}
+use Rattle.std.specs.Prelude.{ℕ, ◌+◌, Bool, true, false, not, ◌&&◌, ◌||◌, List, [], ◌∷◌, ◌++◌, filter, ◌==◌, Option, Some, None, codes, is_none, length, if◌then◌else◌}
 use Rattle.rws_wire.specs.Packets.{number_behind}
 use Rattle.rws_msgs.specs.declared.command.TheConstants.{COM_QUERY}
 use Rattle.rws_native.specs.declared.login.Login.{Login}
 use Rattle.rws_class.specs.declared.class.Class.{Class}
-use Rattle.rws_class.specs.declared.class.Class.TheVariants.{Read, PrimaryRead, Write, Ddl, Session, AutocommitOn, Refused, Other}
-use Rattle.rws_trx.specs.Transactions.{shows_autocommit}
+use Rattle.rws_class.specs.declared.class.Class.TheVariants.{Session, AutocommitOn, AutocommitOff, Other}
+use Rattle.rws_trx.specs.declared.transaction.Answer.{Answer}
+use Rattle.rws_trx.specs.declared.transaction.Transaction.{Transaction}
+use Rattle.rws_trx.specs.Transactions.{begins_read_only}
+use Rattle.rws_trx.specs.OnLinks.{added, answered, no_transaction}
 use Rattle.rws_routing.specs.declared.routing.Routing.{Routing}
 use Rattle.rws_routing.specs.Routings.{goes_to_primary, is_at, lost, new_routing, routed, server_in, stopped, ticked, with_server}
 use Rattle.rws_reply.specs.declared.kind.Kind.{Kind}
 use Rattle.rws_reply.specs.declared.kind.Kind.TheVariants.{Query as QueryReply}
+use Rattle.rws_reply.specs.declared.kind.Outcome.{Outcome}
 use Rattle.rws_reply.specs.declared.kind.Outcome.TheVariants.{Done, Failed}
 use Rattle.rws_reply.specs.declared.kind.Progress.TheVariants.{Whole as Ends}
 use Rattle.rws_front.specs.declared.phase.Phase.TheVariants.{Greets as IsToGreet, Commands}
@@ -259,19 +263,8 @@ told_from (_ ∷ past) = told_from past
 
 -- Where it goes
 
--- The class that a command counts as: as long as transactions aren't built, what opens or ends one may change anything.
-abbrev pub counted : Class → Class
-counted Read = Read
-counted PrimaryRead = PrimaryRead
-counted Write = Write
-counted Ddl = Ddl
-counted Session = Session
-counted AutocommitOn = AutocommitOn
-counted Refused = Refused
-counted _ = Other
-
 abbrev pub class_of_command : Command → Class
-class_of_command command = counted (class_by (request_of command.payload) command.payload)
+class_of_command command = class_by (request_of command.payload) command.payload
 
 -- the class of the pending command
 abbrev pub class_by_pending : Option Command → Class
@@ -298,6 +291,7 @@ kept_on (_ ∷ past) = kept_on past
 abbrev pub is_session : Class → Bool
 is_session Session = true
 is_session AutocommitOn = true
+is_session AutocommitOff = true
 is_session _ = false
 
 abbrev pub with_pending : List Command → Option Command → List Command
@@ -354,28 +348,54 @@ routing config (Puts (Drops link cause) ∷ past) = lost link (routing config pa
 routing config (Puts (Tells number (Refuses NoPrimary)) ∷ past) = stopped (routing config past)
 routing config (_ ∷ past) = routing config past
 
-abbrev pub goes_by : (kept assigned : Option ℕ) → Option ℕ
-goes_by (Some link) assigned = Some link
-goes_by None assigned = assigned
+-- Its transaction
+
+-- The reply to a command of this class, on this link, speaks of the session's state: it came on the link that the session is pinned
+-- to; or, where it is pinned to none, on that to the primary; or the command begins a read-only transaction, which may be at a replica.
+abbrev pub speaks : (pinned : Option ℕ) → ℕ → Class → Routing → Bool
+speaks pinned link class r =
+    is_at link pinned || ((is_none pinned && goes_to_primary r) || begins_read_only class)
+
+abbrev pub or_link : Option ℕ → Option ℕ → Option ℕ
+or_link (Some link) other = Some link
+or_link None other = other
+
+abbrev pub length_by : Option Command → ℕ
+length_by (Some command) = length command.payload
+length_by None = 0
+
+-- the reply to the pending command came on a link, and ended so
+abbrev pub answer_to : Option Command → ℕ → Outcome → Answer
+answer_to command link outcome =
+    record { link = link; class = class_by_pending command; bytes = length_by command; outcome = outcome }
+
+abbrev pub answered_if : (speaks : Bool) → Answer → Transaction → Transaction
+answered_if true answer before = answered answer before
+answered_if false answer before = before
+
+-- the transaction behind it
+abbrev pub answered_by : (kept : Option ℕ) → Option Command → ℕ → Outcome → Routing → Transaction → Transaction
+answered_by kept command link outcome r t =
+    answered_if (speaks (or_link kept t.link) link (class_by_pending command) r) (answer_to command link outcome) t
+
+-- Whether autocommit is on, what transaction is open, and on which link, as the replies said that the client has.
+abbrev pub transaction : Config → List Item → Transaction
+transaction config [] = no_transaction
+transaction config (Puts (Tells number (Passes link command payload (Some outcome) recording)) ∷ past) =
+    answered_by (kept_on past) (pending past) link outcome (routing config past) (transaction config past)
+transaction config (_ ∷ past) = transaction config past
+
+-- the link that all commands go on: the session is kept there, or its transaction is open there
+abbrev pub pinned : Config → List Item → Option ℕ
+pinned config past = or_link (kept_on past) (transaction config past).link
+
+-- the bytes of the transaction's commands, with those of the pending one
+abbrev pub transaction_bytes : Config → List Item → ℕ
+transaction_bytes config past = added (transaction config past).bytes (length_by (pending past))
 
 -- the link that the pending command is to go on
 abbrev pub goes_on : Config → List Item → Option ℕ
-goes_on config past = goes_by (kept_on past) (routing config past).assigned
-
--- a reply on this link speaks of the session's state: the session is kept there, or the command was routed to the primary
-abbrev pub speaks : (kept : Option ℕ) → ℕ → Routing → Bool
-speaks kept link r = is_at link kept || (is_none kept && goes_to_primary r)
-
-abbrev pub autocommit_by : (speaks : Bool) → (status : ℕ) → Bool → Bool
-autocommit_by true status before = shows_autocommit status
-autocommit_by false status before = before
-
--- autocommit is on, as the last reply said that speaks of it
-abbrev pub autocommit : Config → List Item → Bool
-autocommit config [] = true
-autocommit config (Puts (Tells number (Passes link command payload (Some (Done status)) recording)) ∷ past) =
-    autocommit_by (speaks (kept_on past) link (routing config past)) status (autocommit config past)
-autocommit config (_ ∷ past) = autocommit config past
+goes_on config past = or_link (pinned config past) (routing config past).assigned
 
 -- What the session waits for
 

@@ -5,6 +5,7 @@ use Rattle.rws_msgs.specs.ErrLayout.{err_bytes}
 use Rattle.rws_native.specs.declared.login.Login.{Login}
 use Rattle.rws_front.specs.Fronting.{Fronting}
 use Rattle.rws_routing.specs.declared.routing.Routing.{Routing}
+use Rattle.rws_trx.specs.declared.transaction.Transaction.{Transaction}
 use Rattle.rws_config.specs.declared.config.Config.{Config}
 use Rattle.rws_record.specs.declared.command.Command.{Command}
 use Rattle.rws_record.specs.declared.proxy_error.ProxyError.TheVariants.{OutOfMemory}
@@ -12,7 +13,7 @@ use Rattle.rws_record.specs.Item.{Item, Put}
 use Rattle.rws_record.specs.Item.Put.{Hands, Tells, Routes, Opens, LogsInto, Sends, Drops, Closes}
 use Rattle.rws_record.specs.Item.Tell.{Passes, Owns, Refuses}
 use Rattle.rws_record.specs.Record.{want_number}
-use Rattle.rws_record.specs.Values.{accepted, asking, autocommit, banned, fronted, is_over, kept_on, links, login_of, now as reading, pending, reply_number, routing, sent_on, told_from}
+use Rattle.rws_record.specs.Values.{accepted, asking, banned, fronted, is_over, kept_on, links, login_of, now as reading, pending, reply_number, routing, sent_on, told_from, transaction}
 use Rattle.rws_record.specs.Rules.{owed}
 use Rattle.rws_record.specs.Errors.{error_of}
 use Rattle.rws_links.specs.declared.numbered.NumberedLink.{NumberedLink}
@@ -38,9 +39,9 @@ pub record State : Type 0 where
   pub told_from : Option ℕ
   -- the number of the packet that the client gets next in the command's reply
   pub reply_number : ℕ
-  -- how far the command has come on its way to a server; whether autocommit is on; and what the clock showed last
+  -- how far the command has come on its way to a server; what transaction is open, and where; and what the clock showed last
   pub routing : Routing
-  pub autocommit : Bool
+  pub transaction : Transaction
   pub now_ms : ℕ
   -- the worker was asked for the words of the pool, by which the pending command's target is found
   pub asking : Bool
@@ -89,7 +90,7 @@ state_of config past = record {
   told_from = told_from past;
   reply_number = reply_number past;
   routing = routing config past;
-  autocommit = autocommit config past;
+  transaction = transaction config past;
   now_ms = reading past;
   asking = asking past;
   over = is_over past;

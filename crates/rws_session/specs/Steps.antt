@@ -1,6 +1,7 @@
 -- How the steps of a session change what it keeps.
 use Rattle.std.specs.Prelude.{◌≡◌, ◌&&◌, ℕ, nat_lt, Bool, true, false, List, [], ◌∷◌, ◌++◌, length, map, not, Option, Some, None, is_some, is_none, if◌then◌else◌}
 use Rattle.rws_wire.specs.Packets.{spelling, number_behind}
+use Rattle.rws_wire.specs.declared.close_reason.CloseReason.{CloseReason}
 use Rattle.rws_wire.specs.declared.drop_cause.DropCause.{DropCause}
 use Rattle.rws_wire.specs.declared.drop_cause.DropCause.TheVariants.{End, Kept as IsKept}
 use Rattle.rws_msgs.specs.ErrLayout.{err_bytes}
@@ -18,6 +19,8 @@ use Rattle.rws_board.specs.declared.action.Action.{Action}
 use Rattle.rws_board.specs.declared.action.Action.TheVariants as actions
 use Rattle.rws_route.specs.declared.destination.Target.{Target}
 use Rattle.rws_routing.specs.Routings.{finds_late, lost, new_routing, routed, server_in, stopped, ticked}
+use Rattle.rws_trx.specs.declared.transaction.Transaction.{Transaction}
+use Rattle.rws_trx.specs.OnLinks.{added, no_transaction, status_of}
 use Rattle.rws_config.specs.declared.config.Config.{Config}
 use Rattle.rws_record.specs.declared.command.Command.{Command}
 use Rattle.rws_record.specs.declared.proxy_error.ProxyError.{ProxyError}
@@ -26,19 +29,19 @@ use Rattle.rws_record.specs.Item.{Item, Judged, Put}
 use Rattle.rws_record.specs.Item.Item.{Puts}
 use Rattle.rws_record.specs.Item.Judged.{Serves}
 use Rattle.rws_record.specs.Item.Put.{Opens}
-use Rattle.rws_record.specs.Rules.{after_command, after_connecting, after_loss_by, after_played, after_preparing, after_route, again_by, drop_cause, form_of, goes_if, has_transaction, is_link, is_loss, is_replayable, Loss, loss_by, next, own_status, recording_by, unasked}
+use Rattle.rws_record.specs.Rules.{after_command, after_connecting, after_loss_by, after_played, after_preparing, after_route, again_by, drop_cause, form_of, goes_if, is_link, is_loss, is_read_only, is_replayable, Loss, loss_by, next, not_replayable, recording_by, unasked}
 use Rattle.rws_record.specs.Record.{GoesOn}
 use Rattle.rws_record.specs.Errors.{error_of}
-use Rattle.rws_record.specs.Judging.{judged}
+use Rattle.rws_record.specs.Judging.{Context, judged}
 use Rattle.rws_record.specs.Outputs.{actions_of, own_ok, outs_of}
-use Rattle.rws_record.specs.Values.{class_by_pending, class_of_command, goes_by, is_session, keeps, login_by, preamble, unless_link, with_pending}
+use Rattle.rws_record.specs.Values.{answered_by, class_by_pending, class_of_command, is_session, keeps, length_by, login_by, or_link, preamble, unless_link, with_pending}
 use Rattle.rws_links.specs.declared.coming.Coming.{Coming}
 use Rattle.rws_links.specs.declared.history.Recording.{Recording}
 use Rattle.rws_links.specs.declared.history.Recording.TheVariants as recordings
 use Rattle.rws_links.specs.declared.numbered.Asked.{Asked}
 use Rattle.rws_links.specs.declared.numbered.Asked.TheVariants.{Preamble, Entry as AnEntry, Command as ACommand}
 use Rattle.rws_links.specs.declared.numbered.NumberedLink.{NumberedLink}
-use Rattle.rws_links.specs.Finding.{autocommit_behind, first_to}
+use Rattle.rws_links.specs.Finding.{first_to}
 use Rattle.rws_links.specs.Links.{new_link}
 use Rattle.rws_session.specs.declared.owing.Out.{Out}
 use Rattle.rws_session.specs.declared.owing.Out.TheVariants as outs
@@ -64,7 +67,7 @@ fresh number front login links reading = record {
     told_from = None;
     reply_number = 0;
     routing = new_routing;
-    autocommit = true;
+    transaction = no_transaction;
     now_ms = reading;
     asking = false;
     over = false;
@@ -107,21 +110,25 @@ abbrev pub kept_behind : ℕ → Recording → Option ℕ → Option ℕ
 kept_behind link recordings.Keeps kept = Some link
 kept_behind link _ kept = kept
 
--- the reply ended
-abbrev pub ends_reply : (next link : ℕ) → Outcome → Recording → State → State
-ends_reply next link outcome recording s = record s {
+-- the reply ended, and the transaction is this one
+abbrev pub ends_reply : (next link : ℕ) → Transaction → Recording → State → State
+ends_reply next link t recording s = record s {
   kept_on = kept_behind link recording s.kept_on;
   pending = None;
   sent_on = None;
   told_from = None;
   reply_number = next;
-  autocommit = autocommit_behind s.kept_on s.routing link outcome s.autocommit;
+  transaction = t;
 }
+
+-- the transaction behind a reply that ended so on a link
+abbrev pub transaction_behind : ℕ → Outcome → State → Transaction
+transaction_behind link outcome s = answered_by s.kept_on s.pending link outcome s.routing s.transaction
 
 -- a payload of the pending command's reply went to the client, from a link: the last one with the reply's outcome
 abbrev pub passed : (number link : ℕ) → List ℕ → Option Outcome → Recording → State → State
 passed number link payload (Some outcome) recording s =
-    ends_reply (number_behind number payload) link outcome recording (notes link recording s)
+    ends_reply (number_behind number payload) link (transaction_behind link outcome s) recording (notes link recording s)
 passed number link payload None recording s = record s { told_from = Some link; reply_number = number_behind number payload }
 
 -- an error of the proxy's own went to the client: where there was no primary it is the pending command's answer
@@ -129,11 +136,19 @@ abbrev pub refused : ProxyError → State → State
 refused NoPrimary s = record s { pending = None; routing = stopped s.routing }
 refused _ s = s
 
+-- the link that the pending command is to go on
+abbrev pub going : State → Option ℕ
+going s = or_link (or_link s.kept_on s.transaction.link) s.routing.assigned
+
 -- what the loss of a link means, by what the link is to the session
 abbrev pub loss_in : ℕ → State → Loss
 loss_in link s =
-    loss_by (is_link link s.told_from) (is_link link s.sent_on) (again_by s.pending s.autocommit) (is_link link s.kept_on)
-    has_transaction is_replayable (is_link link (goes_if s.pending (goes_by s.kept_on s.routing.assigned)))
+    loss_by (is_link link s.told_from) (is_link link s.sent_on) (again_by s.pending s.transaction.state) (is_link link s.kept_on)
+    (is_link link s.transaction.link) is_replayable (is_link link (goes_if s.pending (going s)))
+
+-- why its transaction can't be replayed
+abbrev pub ending_in : State → CloseReason
+ending_in s = not_replayable (added s.transaction.bytes (length_by s.pending)) s.transaction.state
 
 -- the pending command isn't on this link any more, and isn't to go on it
 abbrev pub leaves : ℕ → State → State
@@ -145,7 +160,7 @@ forgets link s = leaves link (record s { links = without_number link s.links })
 
 -- a link is lost, and what this means is owed
 abbrev pub loses : ℕ → State → State
-loses link s = record (forgets link s) { owed = map erased (after_loss_by (loss_in link s)) ++ s.owed }
+loses link s = record (forgets link s) { owed = map erased (after_loss_by (loss_in link s) (ending_in s)) ++ s.owed }
 
 -- a link is given up
 abbrev pub gives_up : ℕ → DropCause → State → State
@@ -176,7 +191,7 @@ ticks wait reading s = record s { now_ms = reading; routing = ticked wait readin
 
 -- it isn't known where the pending command goes, and it doesn't wait
 abbrev pub is_unrouted : State → Bool
-is_unrouted s = is_some s.pending && (is_none (goes_by s.kept_on s.routing.assigned) && not s.routing.waits)
+is_unrouted s = is_some s.pending && (is_none (going s) && not s.routing.waits)
 
 -- the command's target was found; `link` is the session's link to its server
 abbrev pub routes_in : Target → (link : Option ℕ) → (next : ℕ) → State → State
@@ -224,7 +239,7 @@ TakesRoute puts next old new false = (opens_none puts ≡ true) × (new ≡ reco
 
 -- the link that the pending command is to go on, where it isn't sent yet
 abbrev pub unsent : State → Option ℕ
-unsent s = if (is_some s.pending && is_none s.sent_on) then goes_by s.kept_on s.routing.assigned else None
+unsent s = if (is_some s.pending && is_none s.sent_on) then going s else None
 
 -- something goes out on a link; these are the links then
 abbrev pub sends_on : ℕ → List ℕ → List NumberedLink → Kept → Kept
@@ -279,7 +294,7 @@ pending_by _ before = before
 abbrev pub answers : Judged → ℕ → State → State
 answers judgement number s = record s {
   pending = pending_by judgement s.pending;
-  owed = map erased (after_command judgement number (own_status s.autocommit)) ++ s.owed;
+  owed = map erased (after_command judgement number (status_of s.transaction.state)) ++ s.owed;
 }
 
 -- a new command isn't routed yet, and the client is told nothing of its reply, which begins with this number
@@ -303,18 +318,26 @@ abbrev pub connects : FrontStep → State → State
 connects said s = record s { login = login_by said s.login; owed = map erased (after_connecting said) ++ s.owed }
 
 -- what came of the client was taken up, or nothing came
-abbrev pub TakesSaid : FrontStep → Bool → Kept → Kept → Type 0
-TakesSaid fronts.Idle false old new = new ≡ old
-TakesSaid fronts.Idle true old new = ⊥
-TakesSaid said false old new = ⊥
-TakesSaid (fronts.Command payload) true old new =
-    new ≡ record old { state = takes (judged payload.bytes payload.next) payload.next old.state }
-TakesSaid said true old new = new ≡ record old { state = connects said old.state }
+abbrev pub TakesSaid : Context → FrontStep → Bool → Kept → Kept → Type 0
+TakesSaid now fronts.Idle false old new = new ≡ old
+TakesSaid now fronts.Idle true old new = ⊥
+TakesSaid now said false old new = ⊥
+TakesSaid now (fronts.Command payload) true old new =
+    new ≡ record old { state = takes (judged now payload.bytes payload.next) payload.next old.state }
+TakesSaid now said true old new = new ≡ record old { state = connects said old.state }
 
--- what the end of the pending command's reply means for the history, which has room for so many entries
+-- the history, which has room for so many entries, has none left
+abbrev pub is_full_in : (limit : ℕ) → State → Bool
+is_full_in limit s = not (nat_lt (length s.accepted) limit)
+
+-- what a command is judged by that comes now
+abbrev pub context_in : (limit : ℕ) → State → Context
+context_in limit s = record { read_only = is_read_only s.transaction.state.opened; full = is_full_in limit s }
+
+-- what the end of the pending command's reply means for the history
 abbrev pub recording_in : (limit : ℕ) → State → Outcome → Recording
 recording_in limit s outcome =
-    recorded (recording_by (is_session (class_by_pending s.pending)) (is_some s.kept_on) (not (nat_lt (length s.accepted) limit)) outcome)
+    recorded (recording_by (is_session (class_by_pending s.pending)) (is_some s.kept_on) (is_full_in limit s) outcome)
 
 -- what follows on a payload of the pending command's reply, which is this in the client's form
 abbrev pub owes_reply : ℕ → (form : List ℕ) → Progress → (behind : Bool) → (number : ℕ) → (Outcome → Recording) → List (Option Out)

@@ -21,6 +21,7 @@ use rws_front::Front;
 use rws_links::{ClassedCommand, Count, LinkLogin, LinkTable};
 use rws_record::Command;
 use rws_routing::Routing;
+use rws_trx::Transaction;
 use rws_wire::Text;
 use std::alloc::{AllocError, Global};
 use std::collections::VecDeque;
@@ -30,8 +31,8 @@ use std::mem;
 /// One client's session, from the greeting to the end.
 ///
 /// It lets the client in, answers what it can by itself, passes commands on and replies back, and gives up with a reason where it
-/// can't go on. A command goes where its class and the words of the pool say, on one link to each server; one that may change
-/// anything keeps the session on its link from then on. Its links repeat the client's login at their servers, and play the commands
+/// can't go on. A command goes where its class and the words of the pool say, on one link to each server; while a transaction is open
+/// all go on its link, and one that may change anything keeps the session on its link from then on. Its links repeat the client's login at their servers, and play the commands
 /// that have set something in the session. What it gives out waits to be fetched by [`Session::next_out`].
 ///
 /// Where memory is wanting in a turn the session ends: what it gave out is fetched, then its client is told by
@@ -64,8 +65,8 @@ pub struct Session {
     reply_number: u8,
     /// How far it has come on its way to a server.
     routing: Routing,
-    /// Autocommit is on, as the last reply said that speaks of it.
-    autocommit: bool,
+    /// Whether autocommit is on, and what transaction is open, and on which link, as the replies said that speak of it.
+    transaction: Transaction,
     /// What the clock showed last, in milliseconds.
     now_ms: u64,
     /// The worker was asked where the pending command is to go, and didn't answer yet.
@@ -100,7 +101,7 @@ impl Model for Session {
         told_from = s.told_from;
         reply_number = s.reply_number;
         routing = s.routing;
-        autocommit = s.autocommit;
+        transaction = s.transaction;
         now_ms = s.now_ms;
         asking = s.asking;
         over = s.over;

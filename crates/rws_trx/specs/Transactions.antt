@@ -6,6 +6,8 @@ use Rattle.rws_class.specs.declared.class.Class.TheVariants.{Write, Begin, Begin
 use Rattle.rws_msgs.specs.declared.status.TheConstants.{IN_TRANS, AUTOCOMMIT}
 use Rattle.rws_reply.specs.declared.kind.Outcome.{Outcome}
 use Rattle.rws_reply.specs.declared.kind.Outcome.TheVariants.{Done, Failed}
+use Rattle.rws_trx.specs.declared.state.Course.{Course}
+use Rattle.rws_trx.specs.declared.state.Course.TheVariants.{GoesOn, Begins, IsNone}
 use Rattle.rws_trx.specs.declared.state.Open.{Open}
 use Rattle.rws_trx.specs.declared.state.Open.TheVariants.{Nothing, ReadWrite, ReadOnly}
 use Rattle.rws_trx.specs.declared.state.TrxState.{TrxState}
@@ -88,6 +90,12 @@ after class (Done status) state = record {
   tainted = goes_on class status state && state.tainted;
 }
 after class (Failed code) state = record state { tainted = state.tainted || is_open state }
+
+-- what a reply means for the transaction: the one that was open goes on, with this command; one begins with it; or none is open
+abbrev pub course : Class → Outcome → TrxState → Course
+course class (Done status) state =
+    if goes_on class status state then GoesOn else (if shows_open status then Begins else IsNone)
+course class (Failed code) state = if is_open state then GoesOn else IsNone
 
 -- losses ---------------------------------------------------------------------------------------------
 

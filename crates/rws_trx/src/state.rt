@@ -2,10 +2,12 @@
 ghost use Rattle.std.specs.Prelude.{◌≡◌, ℕ, not};
 ghost use Rattle.rws_class.specs.declared.class.Class.{Class as StatementClass};
 ghost use Rattle.rws_reply.specs.declared.kind.Outcome.TheVariants.{Done, Failed};
-ghost use Rattle.rws_trx.specs.Transactions.{at_start, after, goes_on, is_read_only, may_end, leaves_unknown};
+ghost use Rattle.rws_trx.specs.Transactions.{at_start, after, course, goes_on, is_open, is_read_only, may_end, leaves_unknown};
+ghost use Rattle.rws_trx.specs.OnLinks.{status_of};
 
 use rws_class::Class;
 use rws_msgs::status::{AUTOCOMMIT, IN_TRANS};
+use rws_reply::Outcome;
 
 /// Which transaction is open.
 #[derive(Clone, Copy, Debug, PartialEq, Eq)]
@@ -16,6 +18,17 @@ pub enum Open {
     ReadWrite,
     /// One that a `START TRANSACTION READ ONLY` opened while autocommit was on and none was open.
     ReadOnly,
+}
+
+/// What a reply means for the transaction.
+#[derive(Clone, Copy, Debug, PartialEq, Eq)]
+pub enum Course {
+    /// The one that was open is open still, and the command belongs to it.
+    GoesOn,
+    /// One is open that begins with the command.
+    Begins,
+    /// None is open.
+    IsNone,
 }
 
 /// What is known of a session's transaction.
@@ -71,6 +84,58 @@ impl TrxState {
         ensures { (class : StatementClass) (code : ℕ) → self.new ≡ after class (Failed code) self.old }
     {
         self.tainted |= self.opened != Open::Nothing;
+    }
+
+    /// The state behind a reply to a command of this class that ended so.
+    pub fn after(self, class: Class, outcome: Outcome) -> TrxState
+        ensures { result ≡ after class outcome self }
+    {
+        let mut state = self;
+        match outcome {
+            Outcome::Done { status } => state.after_done(class, status),
+            Outcome::Failed { code: _ } => state.after_error(),
+        }
+        state
+    }
+
+    /// What a reply to a command of this class that ended so means for the transaction.
+    pub fn course(&self, class: Class, outcome: Outcome) -> Course
+        ensures { result ≡ course class outcome self.now }
+    {
+        match outcome {
+            Outcome::Done { status } => {
+                if self.goes_on(class, status) {
+                    Course::GoesOn
+                } else if status & IN_TRANS != 0 {
+                    Course::Begins
+                } else {
+                    Course::IsNone
+                }
+            }
+            Outcome::Failed { code: _ } => {
+                if self.is_open() {
+                    Course::GoesOn
+                } else {
+                    Course::IsNone
+                }
+            }
+        }
+    }
+
+    /// A transaction is open.
+    pub fn is_open(&self) -> bool
+        ensures { result ≡ is_open self.now }
+    {
+        self.opened != Open::Nothing
+    }
+
+    /// The status bits of an OK that show this state.
+    pub fn status(&self) -> u16
+        ensures { result ≡ status_of self.now }
+    {
+        let opened = if self.is_open() { IN_TRANS } else { 0 };
+        let autocommit = if self.autocommit { AUTOCOMMIT } else { 0 };
+        opened + autocommit
     }
 
     /// Whether the transaction that is open goes on behind a reply without an error: a transaction is open still, and no

@@ -14,9 +14,8 @@ ghost use Rattle.rws_session.specs.Turning.{Answers, answer_to};
 use crate::owing::Out;
 use crate::session::Session;
 use rws_board::Action;
-use rws_class::Class;
 use rws_config::Config;
-use rws_links::server_in;
+use rws_links::{class_by_pending, server_in};
 use rws_pool::PoolWords;
 use rws_record::ProxyError;
 use rws_route::{Target, target};
@@ -55,11 +54,11 @@ impl Session {
         selector: &Selector<F>,
     ) -> Target
         requires scorer { HasScorer F.Fn selector.now }
-        ensures { result ≡ target_of (class_by_pending self.now.state.pending) self.now.state.autocommit is_sent_back words.now loads.now self.now.state.routing.tried self.now.state.banned }
+        ensures { result ≡ target_of (class_by_pending self.now.state.pending) self.now.state.transaction.state.autocommit is_sent_back words.now loads.now self.now.state.routing.tried self.now.state.banned }
     {
         target(
-            self.class(),
-            self.autocommit,
+            class_by_pending(&self.pending),
+            self.transaction.state.autocommit,
             SENT_BACK,
             words,
             loads,
@@ -67,16 +66,6 @@ impl Session {
             self.banned,
             selector,
         )
-    }
-
-    /// The class that the pending command counts as.
-    fn class(&self) -> Class
-        ensures { result ≡ class_by_pending self.now.state.pending }
-    {
-        match &self.pending {
-            Some(command) => command.class(),
-            None => Class::Other,
-        }
     }
 
     /// The target was found, or there is none: a link is opened or not, which the result says.

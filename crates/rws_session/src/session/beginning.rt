@@ -13,6 +13,7 @@ use rws_front::Front;
 use rws_links::{LinkLogin, LinkTable, reserve_farewell};
 use rws_record::ProxyError;
 use rws_routing::Routing;
+use rws_trx::Transaction;
 use rws_wire::CloseReason;
 use std::alloc::{AllocError, Global};
 use std::collections::VecDeque;
@@ -116,7 +117,7 @@ impl Session {
             told_from: None,
             reply_number: 0,
             routing: Routing::new(),
-            autocommit: true,
+            transaction: Transaction::new(),
             now_ms,
             asking: false,
             over: false,

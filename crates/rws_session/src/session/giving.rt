@@ -3,20 +3,24 @@ ghost use Rattle.std.specs.Prelude.{◌≡◌, ◌∷◌, ◌++◌, ℕ, List, [
 ghost use Rattle.rws_wire.specs.Packets.{spelling, number_behind};
 ghost use Rattle.rws_wire.specs.declared.drop_cause.DropCause.TheVariants as causes;
 ghost use Rattle.rws_board.specs.declared.action.Action.TheVariants as actions;
-ghost use Rattle.rws_record.specs.Rules.{after_loss_by, again_by};
+ghost use Rattle.rws_record.specs.Rules.{after_loss_by};
 ghost use Rattle.rws_session.specs.declared.owing.Out.TheVariants as outs;
 ghost use Rattle.rws_session.specs.State.{erased};
 ghost use Rattle.rws_links.specs.declared.history.Recording.TheVariants as recordings;
 ghost use Rattle.rws_links.specs.Losses.{closing};
 ghost use Rattle.rws_session.specs.Kept.{Holds};
-ghost use Rattle.rws_session.specs.Steps.{ends_reply, gives, leaves, loss_in, notes, refused};
+ghost use Rattle.rws_session.specs.Steps.{ending_in, ends_reply, gives, leaves, loss_in, notes, refused};
 
 use crate::owing::Out;
 use crate::session::Session;
 use rws_board::Action;
-use rws_links::{NumberedLink, Recording, autocommit_behind, closing, is_link, is_loss, own_ok};
+use rws_links::{
+    NumberedLink, Recording, answered_by, closing, is_link, is_loss, not_replayable, own_ok,
+    pending_bytes, sends_again,
+};
 use rws_record::ProxyError;
 use rws_reply::Outcome;
+use rws_trx::Transaction;
 use rws_wire::{CloseReason, DropCause, Text, frame};
 use std::alloc::AllocError;
 use std::collections::VecDeque;
@@ -152,9 +156,17 @@ impl Session {
         ensures ok { OnOk result (self.new ≡ gives (outs.Pass number link payload.now (Some outcome) recording) self.old) }
         ensures err { OnErr result (Holds self.old self.new) }
     {
+        let transaction = answered_by(
+            self.kept_on,
+            &self.pending,
+            link,
+            outcome,
+            self.routing,
+            self.transaction,
+        );
         self.note(link, recording)?;
         let next = self.tell(number, payload)?;
-        self.end_reply(next, link, outcome, recording);
+        self.end_reply(next, link, transaction, recording);
         Ok(())
     }
 
@@ -185,17 +197,11 @@ impl Session {
         Ok(())
     }
 
-    /// The client has the last payload of the reply.
-    fn end_reply(&mut self, next: u8, link: u64, outcome: Outcome, recording: Recording)
-        ensures { self.new ≡ record self.old { state = ends_reply next link outcome recording self.old.state } }
+    /// The client has the last payload of the reply, behind which the transaction is this one.
+    fn end_reply(&mut self, next: u8, link: u64, transaction: Transaction, recording: Recording)
+        ensures { self.new ≡ record self.old { state = ends_reply next link transaction recording self.old.state } }
     {
-        self.autocommit = autocommit_behind(
-            self.kept_on,
-            self.routing,
-            link,
-            outcome,
-            self.autocommit,
-        );
+        self.transaction = transaction;
         self.reply_number = next;
         self.pending = None;
         self.sent_on = None;
@@ -233,7 +239,7 @@ impl Session {
     pub(super) fn owe_loss(&mut self, link: u64) -> Result<(), AllocError>
         ensures ok { OnOk result (self.new ≡ record self.old {
           state = record self.old.state {
-            owed = map erased (after_loss_by (loss_in link self.old.state)) ++ self.old.state.owed;
+            owed = map erased (after_loss_by (loss_in link self.old.state) (ending_in self.old.state)) ++ self.old.state.owed;
           };
         }) }
         ensures err { OnErr result (Holds self.old self.new) }
@@ -246,24 +252,21 @@ impl Session {
 
     /// Why the loss of a link closes the session, if it does.
     fn loss(&self, link: u64) -> Option<CloseReason>
-        ensures { after_loss_by (loss_in link self.now.state) ≡ closing result }
+        ensures { after_loss_by (loss_in link self.now.state) (ending_in self.now.state) ≡ closing result }
     {
+        let state = self.transaction.state;
+        let bytes = self
+            .transaction
+            .bytes
+            .saturating_add(pending_bytes(&self.pending));
         closing(
             is_link(link, self.told_from),
             is_link(link, self.sent_on),
-            self.sends_again(),
+            sends_again(&self.pending, state),
             is_link(link, self.kept_on),
+            is_link(link, self.transaction.link),
+            not_replayable(bytes, state),
         )
-    }
-
-    /// The pending command may be sent again where its link is lost.
-    fn sends_again(&self) -> bool
-        ensures { result ≡ again_by self.now.state.pending self.now.state.autocommit }
-    {
-        match &self.pending {
-            Some(command) => command.sends_again(self.autocommit),
-            None => true,
-        }
     }
 
     /// Owes something before what is owed already.

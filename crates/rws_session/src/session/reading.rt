@@ -1,18 +1,18 @@
 //! What comes on the links is read, one thing after the other.
 ghost use Rattle.std.specs.Prelude.{◌≡◌, ◌++◌, ℕ, List, [], map, IfOk, OnErr, OnOk};
 ghost use Rattle.rws_record.specs.Item.{Item};
-ghost use Rattle.rws_record.specs.Values.{class_by_pending, is_session, links};
+ghost use Rattle.rws_record.specs.Values.{links};
 ghost use Rattle.rws_record.specs.Rules.{after_played, after_preparing, due_arrival, form_of, owed, unasked};
 ghost use Rattle.rws_links.specs.Links.{link_of};
 ghost use Rattle.rws_links.specs.Table.{AreDistinct, ReadsFirst, bans};
 ghost use Rattle.rws_session.specs.Kept.{Holds, Is};
-ghost use Rattle.rws_session.specs.Steps.{Tries, owes, owes_for, owes_reply, recording_in, takes_coming};
+ghost use Rattle.rws_session.specs.Steps.{Tries, is_full_in, owes, owes_for, owes_reply, recording_in, takes_coming};
 
 use crate::owing::Out;
 use crate::session::Session;
 use rws_config::Config;
 use rws_link::LinkStep;
-use rws_links::{Asked, Coming, Recording, drop_cause};
+use rws_links::{Asked, Coming, Recording, drop_cause, sets_session};
 use rws_reply::{Outcome, Progress, Role, client_payload};
 use rws_wire::{DropCause, Text};
 use std::alloc::AllocError;
@@ -205,19 +205,19 @@ impl Session {
     fn recording_of(&self, outcome: Outcome, config: &Config) -> Recording
         ensures { result ≡ recording_in config.now.history_limit self.now.state outcome }
     {
-        let entries = self.accepted.len() as u64;
-        let full = entries >= u64::from(config.history_limit);
-        Recording::of(self.sets_session(), self.kept_on.is_some(), full, outcome)
+        Recording::of(
+            sets_session(&self.pending),
+            self.kept_on.is_some(),
+            self.is_full(config),
+            outcome,
+        )
     }
 
-    /// The pending command sets the session alone.
-    fn sets_session(&self) -> bool
-        ensures { result ≡ is_session (class_by_pending self.now.state.pending) }
+    /// The history has no room for an entry.
+    pub(super) fn is_full(&self, config: &Config) -> bool
+        ensures { result ≡ is_full_in config.now.history_limit self.now.state }
     {
-        match &self.pending {
-            Some(command) => command.is_session(),
-            None => false,
-        }
+        self.accepted.len() as u64 >= u64::from(config.history_limit)
     }
 
     /// A byte behind a whole reply costs the link.

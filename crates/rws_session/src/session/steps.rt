@@ -8,14 +8,14 @@ ghost use Rattle.rws_wire.specs.declared.drop_cause.DropCause.TheVariants as cau
 ghost use Rattle.rws_config.specs.declared.config.Config.{Config};
 ghost use Rattle.rws_record.specs.Item.{Item};
 ghost use Rattle.rws_record.specs.Item.Purpose.{Asks, Plays, Prepares};
-ghost use Rattle.rws_record.specs.Values.{asking, goes_by, links};
+ghost use Rattle.rws_record.specs.Values.{asking, links};
 ghost use Rattle.rws_record.specs.Rules.{after_flood, due_flood, due_route, due_sends, flood_by, flood_limit, next, owed};
 ghost use Rattle.rws_links.specs.Finding.{first_due};
 ghost use Rattle.rws_links.specs.Links.{link_of};
 ghost use Rattle.rws_links.specs.Table.{AreDistinct, SendsOn, without_number};
 ghost use Rattle.rws_session.specs.declared.owing.Out.TheVariants as outs;
 ghost use Rattle.rws_session.specs.Kept.{Holds, Is};
-ghost use Rattle.rws_session.specs.Steps.{SendsEntry, SendsPending, SendsPreamble, Tries, due_put, is_unrouted, others_dropped, owes, unsent};
+ghost use Rattle.rws_session.specs.Steps.{SendsEntry, SendsPending, SendsPreamble, Tries, due_put, going, is_unrouted, others_dropped, owes, unsent};
 
 use crate::owing::Out;
 use crate::session::Session;
@@ -104,9 +104,11 @@ impl Session {
 
     /// The link that the pending command is to go on.
     fn goes_on(&self) -> Option<u64>
-        ensures { result ≡ goes_by self.now.state.kept_on self.now.state.routing.assigned }
+        ensures { result ≡ going self.now.state }
     {
-        self.kept_on.or(self.routing.assigned)
+        self.kept_on
+            .or(self.transaction.link)
+            .or(self.routing.assigned)
     }
 
     /// Sends what is due on the first link on which something is: the preamble, an entry of the history, or the pending command.

@@ -4,22 +4,23 @@ ghost use Rattle.rws_front.specs.Connection.{step_of};
 ghost use Rattle.rws_front.specs.Names.{IsNamed};
 ghost use Rattle.rws_record.specs.Item.{Item};
 ghost use Rattle.rws_record.specs.Item.Put.{Closes, Hands};
-ghost use Rattle.rws_record.specs.Judging.{is_forbidden, judged, query_judged};
+ghost use Rattle.rws_record.specs.Item.Judged.{Serves};
+ghost use Rattle.rws_record.specs.Judging.{accepted_as, class_refusal, judged};
 ghost use Rattle.rws_record.specs.Requests.{class_by, request_of};
-ghost use Rattle.rws_record.specs.declared.request.Request.TheVariants.{Query};
 ghost use Rattle.rws_record.specs.Rules.{due_take, owed};
 ghost use Rattle.rws_session.specs.Kept.{Holds, Is};
-ghost use Rattle.rws_session.specs.Steps.{TakesSaid, Tries, answers, begins_reply, owes, recounted, takes};
+ghost use Rattle.rws_session.specs.Steps.{TakesSaid, Tries, answers, begins_reply, context_in, owes, recounted, takes};
 
 use crate::owing::Out;
 use crate::session::Session;
 use rws_class::Class;
 use rws_config::Config;
 use rws_front::FrontStep;
-use rws_links::{ClassedCommand, LinkLogin, is_forbidden, own_status};
+use rws_links::{ClassedCommand, LinkLogin, changes, is_forbidden};
 use rws_record::{ProxyError, Request};
 use rws_reply::Kind;
 use rws_routing::Routing;
+use rws_trx::Open;
 use rws_wire::{CloseReason, Payload, Text};
 use std::alloc::AllocError;
 
@@ -34,7 +35,7 @@ impl Session {
             return Ok(false);
         }
         let said = self.next_said(config)?;
-        let went = self.take_said(said)?;
+        let went = self.take_said(said, config)?;
         self.recount();
         Ok(went)
     }
@@ -57,9 +58,9 @@ impl Session {
     }
 
     /// Takes up what came of the client: a command, a step of the login, or that its packets can't be read on.
-    fn take_said(&mut self, said: FrontStep) -> Result<bool, AllocError>
+    fn take_said(&mut self, said: FrontStep, config: &Config) -> Result<bool, AllocError>
         requires { IsNamed said }
-        ensures ok { IfOk result (λ went. TakesSaid said went self.old self.new) }
+        ensures ok { IfOk result (λ went. TakesSaid (context_in config.now.history_limit self.old.state) said went self.old self.new) }
         ensures err { OnErr result (Holds self.old self.new) }
     {
         match said {
@@ -73,7 +74,7 @@ impl Session {
                 Ok(true)
             }
             FrontStep::Command(Payload { bytes, next }) => {
-                self.take(bytes, next)?;
+                self.take(bytes, next, config)?;
                 Ok(true)
             }
             FrontStep::End { bytes, reason } => {
@@ -93,8 +94,10 @@ impl Session {
     }
 
     /// Takes up a command, whose reply begins with the packet number `number`.
-    fn take(&mut self, payload: Text, number: u8) -> Result<(), AllocError>
-        ensures ok { OnOk result (self.new ≡ record self.old { state = takes (judged payload number) number self.old.state }) }
+    fn take(&mut self, payload: Text, number: u8, config: &Config) -> Result<(), AllocError>
+        ensures ok { OnOk result (self.new ≡ record self.old {
+          state = takes (judged (context_in config.now.history_limit self.old.state) payload number) number self.old.state;
+        }) }
         ensures err { OnErr result (Holds self.old self.new) }
     {
         self.begin_reply(number);
@@ -104,17 +107,11 @@ impl Session {
             }),
             Request::Ping => self.owe(Out::Own {
                 number,
-                status: own_status(self.autocommit),
+                status: self.transaction.state.status(),
             }),
-            Request::Query => self.take_query(payload, number),
-            Request::FieldList => {
-                self.serve(Kind::FieldList, payload, number, Class::PrimaryRead);
-                Ok(())
-            }
-            Request::InitDb => {
-                self.serve(Kind::Simple, payload, number, Class::Session);
-                Ok(())
-            }
+            Request::Query => self.take_for_server(Kind::Query, payload, number, config),
+            Request::FieldList => self.take_for_server(Kind::FieldList, payload, number, config),
+            Request::InitDb => self.take_for_server(Kind::Simple, payload, number, config),
             Request::Unsupported => self.owe(Out::Refuse {
                 number,
                 error: ProxyError::NotSupported,
@@ -126,21 +123,42 @@ impl Session {
         }
     }
 
-    /// Takes up a query: a text that may not be sent is refused, and any other is for a server.
-    fn take_query(&mut self, payload: Text, number: u8) -> Result<(), AllocError>
-        requires { request_of payload ≡ Query }
-        ensures ok { OnOk result (self.new ≡ record self.old { state = answers (query_judged (is_forbidden (class_by Query payload)) payload number) number self.old.state }) }
+    /// Takes up a command that a server is to answer by a reply of this kind, unless its class is refused.
+    fn take_for_server(
+        &mut self,
+        kind: Kind,
+        payload: Text,
+        number: u8,
+        config: &Config,
+    ) -> Result<(), AllocError>
+        requires served { accepted_as (request_of payload) payload number ≡ Serves (record { payload = payload; kind = kind; number = number }) }
+        ensures ok { OnOk result (self.new ≡ record self.old {
+          state = answers (judged (context_in config.now.history_limit self.old.state) payload number) number self.old.state;
+        }) }
         ensures err { OnErr result (Holds self.old self.new) }
     {
-        let class = Request::Query.class(payload.as_slice());
-        if is_forbidden(class) {
-            return self.owe(Out::Refuse {
-                number,
-                error: ProxyError::NotSupported,
-            });
+        let class = Request::of(payload.as_slice()).class(payload.as_slice());
+        match self.refusal(class, config) {
+            Some(error) => self.owe(Out::Refuse { number, error }),
+            None => {
+                self.serve(kind, payload, number, class);
+                Ok(())
+            }
         }
-        self.serve(Kind::Query, payload, number, class);
-        Ok(())
+    }
+
+    /// Why a command of this class, which is for a server, is refused, if it is.
+    fn refusal(&self, class: Class, config: &Config) -> Option<ProxyError>
+        ensures { result ≡ class_refusal (context_in config.now.history_limit self.now.state) class }
+    {
+        if is_forbidden(class) {
+            return Some(ProxyError::NotSupported);
+        }
+        let read_only = self.transaction.state.opened == Open::ReadOnly;
+        if read_only && changes(self.is_full(config), class) {
+            return Some(ProxyError::NotInReadOnly);
+        }
+        None
     }
 
     /// A new command isn't routed yet, and the client is told nothing of its reply.

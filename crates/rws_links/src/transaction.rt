@@ -1,0 +1,117 @@
+//! What a reply to the pending command means for the session's transaction, and what the transaction means for a command.
+ghost use Rattle.std.specs.Prelude.{◌≡◌};
+ghost use Rattle.rws_record.specs.Judging.{changes};
+ghost use Rattle.rws_record.specs.Rules.{again_by, not_replayable};
+ghost use Rattle.rws_record.specs.Values.{answer_to, answered_by, class_by_pending, is_session, length_by, speaks};
+
+use crate::ClassedCommand;
+use rws_class::Class;
+use rws_reply::Outcome;
+use rws_routing::Routing;
+use rws_trx::{Answer, Open, Transaction, TrxState};
+use rws_wire::CloseReason;
+
+/// The class of the pending command.
+pub fn class_by_pending(pending: &Option<ClassedCommand>) -> Class
+    ensures { result ≡ class_by_pending pending.now }
+{
+    match pending {
+        Some(command) => command.class(),
+        None => Class::Other,
+    }
+}
+
+/// The pending command sets the session alone.
+pub fn sets_session(pending: &Option<ClassedCommand>) -> bool
+    ensures { result ≡ is_session (class_by_pending pending.now) }
+{
+    match pending {
+        Some(command) => command.is_session(),
+        None => false,
+    }
+}
+
+/// How long the pending command is, in bytes.
+pub fn pending_bytes(pending: &Option<ClassedCommand>) -> u64
+    ensures { result ≡ length_by pending.now }
+{
+    match pending {
+        Some(command) => command.bytes(),
+        None => 0,
+    }
+}
+
+/// The pending command may be sent again where its link is lost, and the transaction stands so.
+pub fn sends_again(pending: &Option<ClassedCommand>, state: TrxState) -> bool
+    ensures { result ≡ again_by pending.now state }
+{
+    match pending {
+        Some(command) => command.sends_again(state),
+        None => true,
+    }
+}
+
+/// The transaction behind the end of the pending command's reply on a link: it moves where the reply speaks of it.
+pub fn answered_by(
+    kept_on: Option<u64>,
+    pending: &Option<ClassedCommand>,
+    link: u64,
+    outcome: Outcome,
+    routing: Routing,
+    transaction: Transaction,
+) -> Transaction
+    ensures { result ≡ answered_by kept_on pending.now link outcome routing transaction }
+{
+    let answer = answer_to(pending, link, outcome);
+    let pinned = kept_on.or(transaction.link);
+    if speaks(pinned, link, answer.class, routing) {
+        return transaction.answered(answer);
+    }
+    transaction
+}
+
+/// The reply to the pending command came on a link, and ended so.
+fn answer_to(pending: &Option<ClassedCommand>, link: u64, outcome: Outcome) -> Answer
+    ensures { result ≡ answer_to pending.now link outcome }
+{
+    Answer {
+        link,
+        class: class_by_pending(pending),
+        bytes: pending_bytes(pending),
+        outcome,
+    }
+}
+
+/// A reply to a command of this class, on this link, speaks of the session's state.
+fn speaks(pinned: Option<u64>, link: u64, class: Class, routing: Routing) -> bool
+    ensures { result ≡ speaks pinned link class routing }
+{
+    let there = match pinned {
+        Some(other) => other == link,
+        None => routing.goes_to_primary(),
+    };
+    there || class == Class::BeginReadOnly
+}
+
+/// Why a transaction can't be replayed whose commands have so many bytes: no transaction is.
+pub fn not_replayable(bytes: u64, state: TrxState) -> CloseReason
+    ensures { result ≡ not_replayable bytes state }
+{
+    CloseReason::NotReplayable {
+        bytes,
+        tainted: state.tainted,
+        read_only: state.opened == Open::ReadOnly,
+        off: true,
+    }
+}
+
+/// A command of this class may change something, or sets the session while its history is full.
+pub fn changes(full: bool, class: Class) -> bool
+    ensures { result ≡ changes full class }
+{
+    match class {
+        Class::Read | Class::PrimaryRead | Class::Commit | Class::Rollback => false,
+        Class::Session => full,
+        _ => true,
+    }
+}
