@@ -28,6 +28,8 @@ use Rattle.rws_config.specs.declared.limits.TheConstants.{SERVER_PAYLOAD}
 use Rattle.rws_config.specs.declared.config.Config.{Config}
 use Rattle.rws_route.specs.declared.destination.Target.{Target}
 use Rattle.rws_route.specs.declared.destination.Target.TheVariants.{Primary, Replica, NoPrimary as Nowhere}
+use Rattle.rws_trx.specs.OnLinks.{status_of}
+use Rattle.rws_wire.specs.declared.close_reason.CloseReason.{CloseReason}
 use Rattle.rws_record.specs.declared.command.Command.{Command}
 use Rattle.rws_record.specs.Item.{Item, Purpose, Judged, Put, Recording, Tell}
 use Rattle.rws_record.specs.Item.Item.{Accepted, TurnsAway, Began, ClientBytes, LinkReady, LinkBytes, ClientGone, LinkLost, Ticks, Routed, Comes, Connects, Takes, Floods, Puts, Starves}
@@ -36,8 +38,8 @@ use Rattle.rws_record.specs.Item.Purpose.{Prepares, Asks, Plays}
 use Rattle.rws_record.specs.Item.Recording.{Nothing, Accepts, Keeps}
 use Rattle.rws_record.specs.Item.Tell.{Passes, Owns, Refuses}
 use Rattle.rws_record.specs.Item.Put.{Hands, Tells, Routes, Opens, LogsInto, Sends, Drops, Closes}
-use Rattle.rws_record.specs.Values.{accepted, asked_on, autocommit, class_by_pending, class_of_command, cursor, is_over, is_session, keeps, kept_on, kind_of, linked, links, pending, played_by, reply_number, sent_for, with_pending, without}
-use Rattle.rws_record.specs.Rules.{Loss, CutsReply, HidesOutcome, TakesState, EndsTransaction, StartsReplay, SendsElsewhere, IsForgotten, after_answer, after_command, after_coming, after_connecting, after_keeping, after_loss, after_loss_by, after_played, after_preparing, after_route, after_turning_away, after_want, farewells, follow, form_of, is_loss, loss_of, opening as opens_to, owed, own_status, recording_by, recording_of, refusing, unasked}
+use Rattle.rws_record.specs.Values.{accepted, asked_on, class_by_pending, class_of_command, cursor, is_over, is_session, keeps, kept_on, kind_of, linked, links, pending, played_by, reply_number, sent_for, with_pending, without, transaction}
+use Rattle.rws_record.specs.Rules.{Loss, CutsReply, HidesOutcome, TakesState, EndsTransaction, StartsReplay, SendsElsewhere, IsForgotten, after_answer, after_command, after_coming, after_connecting, after_keeping, after_loss, after_loss_by, after_played, after_preparing, after_route, after_turning_away, after_want, farewells, follow, form_of, is_loss, loss_of, opening as opens_to, owed, recording_by, recording_of, refusing, unasked, ending}
 use Rattle.rws_record.specs.Record.{IsBeginning, IsInput, IsRecord}
 use Rattle.rws_record.specs.Record.IsRecord.{begins, steps as record_steps, answers, hears, starves}
 use Rattle.rws_record.proofs.StepLemmas.{Due, Step, of_next}
@@ -107,14 +109,14 @@ calm_kept : (list : List ℕ) → is_calm (map (λ link. Drops link Kept) list) 
 calm_kept [] = refl
 calm_kept (link ∷ others) = calm_kept others
 
-calm_loss_by : (loss : Loss) → is_calm (after_loss_by loss) ≡ true
-calm_loss_by CutsReply = refl
-calm_loss_by HidesOutcome = refl
-calm_loss_by TakesState = refl
-calm_loss_by EndsTransaction = refl
-calm_loss_by StartsReplay = refl
-calm_loss_by SendsElsewhere = refl
-calm_loss_by IsForgotten = refl
+calm_loss_by : (loss : Loss) (ends : CloseReason) → is_calm (after_loss_by loss ends) ≡ true
+calm_loss_by CutsReply ends = refl
+calm_loss_by HidesOutcome ends = refl
+calm_loss_by TakesState ends = refl
+calm_loss_by EndsTransaction ends = refl
+calm_loss_by StartsReplay ends = refl
+calm_loss_by SendsElsewhere ends = refl
+calm_loss_by IsForgotten ends = refl
 
 calm_if : (test : Bool) (list : List Put) → is_calm list ≡ true → is_calm (if test then list else []) ≡ true
 calm_if true list c = c
@@ -142,7 +144,7 @@ calm_follow config (LogsInto link packets) past = refl
 calm_follow config (Sends link Prepares) past = refl
 calm_follow config (Sends link (Plays command)) past = refl
 calm_follow config (Sends link (Asks command)) past = calm_keeping (keeps (class_of_command command)) link (kept_on past) (links past)
-calm_follow config (Drops link cause) past = calm_if (is_loss cause) (after_loss config link past) (calm_loss_by (loss_of config link past))
+calm_follow config (Drops link cause) past = calm_if (is_loss cause) (after_loss config link past) (calm_loss_by (loss_of config link past) (ending config past))
 calm_follow config (Closes reason) past = refl
 
 calm_unasked : (link : ℕ) (behind : Bool) → is_calm (unasked link behind) ≡ true
@@ -260,7 +262,7 @@ owed_fits config (LinkReady link ∷ past) = (refl, refl)
 owed_fits config (LinkBytes link bytes ∷ past) = (refl, refl)
 owed_fits config (ClientGone ∷ past) = calm_fits (may_add config (ClientGone ∷ past)) (farewells past) (calm_farewells (links past))
 owed_fits config (LinkLost link ∷ past) =
-    calm_fits (may_add config (LinkLost link ∷ past)) (after_loss config link past) (calm_loss_by (loss_of config link past))
+    calm_fits (may_add config (LinkLost link ∷ past)) (after_loss config link past) (calm_loss_by (loss_of config link past) (ending config past))
 owed_fits config (Ticks reading ∷ past) = (refl, refl)
 owed_fits config (Routed words loads next found ∷ past) =
     calm_fits (may_add config (Routed words loads next found ∷ past)) (owed config (Routed words loads next found ∷ past))
@@ -268,8 +270,8 @@ owed_fits config (Routed words loads next found ∷ past) =
 owed_fits config (Comes link said ∷ past) = coming_fits config past link said (asked_on link past) (reply_number past)
 owed_fits config (Connects said ∷ past) = calm_fits (may_add config (Connects said ∷ past)) (after_connecting said) (calm_connecting said)
 owed_fits config (Takes judged number ∷ past) =
-    calm_fits (may_add config (Takes judged number ∷ past)) (after_command judged number (own_status (autocommit config past)))
-    (calm_command judged number (own_status (autocommit config past)))
+    calm_fits (may_add config (Takes judged number ∷ past)) (after_command judged number (status_of (transaction config past).state))
+    (calm_command judged number (status_of (transaction config past).state))
 owed_fits config (Floods bytes ∷ past) = (refl, refl)
 owed_fits config (Starves made number ∷ past) =
     calm_fits (may_add config (Starves made number ∷ past)) (after_want (is_over past) made number (farewells past))

@@ -15,6 +15,8 @@ use Rattle.rws_link.specs.declared.step.LinkStep.TheVariants as steps
 use Rattle.rws_config.specs.declared.config.Config.{Config}
 use Rattle.rws_route.specs.declared.destination.Target.{Target}
 use Rattle.rws_route.specs.declared.destination.Target.TheVariants.{Primary, Replica, NoPrimary as Nowhere}
+use Rattle.rws_trx.specs.OnLinks.{status_of}
+use Rattle.rws_wire.specs.declared.close_reason.CloseReason.{CloseReason}
 use Rattle.rws_record.specs.declared.command.Command.{Command}
 use Rattle.rws_record.specs.Item.{Item, Purpose, Judged, Put, Recording, Tell}
 use Rattle.rws_record.specs.Item.Item.{Accepted, TurnsAway, Began, ClientBytes, LinkReady, LinkBytes, ClientGone, LinkLost, Ticks, Routed, Comes, Connects, Takes, Floods, Puts, Starves}
@@ -23,8 +25,8 @@ use Rattle.rws_record.specs.Item.Purpose.{Prepares, Asks, Plays}
 use Rattle.rws_record.specs.Item.Recording.{Nothing, Accepts, Keeps}
 use Rattle.rws_record.specs.Item.Tell.{Passes, Owns, Refuses}
 use Rattle.rws_record.specs.Item.Put.{Hands, Tells, Routes, Opens, LogsInto, Sends, Drops, Closes}
-use Rattle.rws_record.specs.Values.{asking, asked_on, autocommit, class_of_command, keeps, kept_on, links, now, opens, is_over, reply_number, without}
-use Rattle.rws_record.specs.Rules.{Loss, CutsReply, HidesOutcome, TakesState, EndsTransaction, StartsReplay, SendsElsewhere, IsForgotten, after_answer, after_command, after_coming, after_connecting, after_keeping, after_loss, after_loss_by, after_part, after_played, after_preparing, after_route, after_turning_away, after_want, farewells, follow, form_of, is_loss, loss_of, next, opening, owed, own_status, recording_of, refusing, unasked}
+use Rattle.rws_record.specs.Values.{asking, asked_on, class_of_command, keeps, kept_on, links, now, opens, is_over, reply_number, without, transaction}
+use Rattle.rws_record.specs.Rules.{Loss, CutsReply, HidesOutcome, TakesState, EndsTransaction, StartsReplay, SendsElsewhere, IsForgotten, after_answer, after_command, after_coming, after_connecting, after_keeping, after_loss, after_loss_by, after_part, after_played, after_preparing, after_route, after_turning_away, after_want, farewells, follow, form_of, is_loss, loss_of, next, opening, owed, recording_of, refusing, unasked, ending}
 use Rattle.rws_record.specs.Record.{IsBeginning, IsInput, IsRecord, GoesOn}
 use Rattle.rws_record.specs.Record.IsRecord.{begins, steps as record_steps, answers, hears, starves}
 use Rattle.rws_record.specs.Record.GoesOn.{stays, then as goes_then}
@@ -65,14 +67,14 @@ plain_farewells : (list : List ℕ) → is_plain (map (λ link. Drops link End) 
 plain_farewells [] = refl
 plain_farewells (link ∷ others) = plain_farewells others
 
-plain_loss_by : (loss : Loss) → is_plain (after_loss_by loss) ≡ true
-plain_loss_by CutsReply = refl
-plain_loss_by HidesOutcome = refl
-plain_loss_by TakesState = refl
-plain_loss_by EndsTransaction = refl
-plain_loss_by StartsReplay = refl
-plain_loss_by SendsElsewhere = refl
-plain_loss_by IsForgotten = refl
+plain_loss_by : (loss : Loss) (ends : CloseReason) → is_plain (after_loss_by loss ends) ≡ true
+plain_loss_by CutsReply ends = refl
+plain_loss_by HidesOutcome ends = refl
+plain_loss_by TakesState ends = refl
+plain_loss_by EndsTransaction ends = refl
+plain_loss_by StartsReplay ends = refl
+plain_loss_by SendsElsewhere ends = refl
+plain_loss_by IsForgotten ends = refl
 
 plain_if : (test : Bool) (list : List Put) → is_plain list ≡ true → is_plain (if test then list else []) ≡ true
 plain_if true list p = p
@@ -106,7 +108,7 @@ plain_follow config (Sends link (Plays command)) past = refl
 plain_follow config (Sends link (Asks command)) past =
     plain_keeping (keeps (class_of_command command)) link (kept_on past) (links past)
 plain_follow config (Drops link cause) past =
-    plain_if (is_loss cause) (after_loss config link past) (plain_loss_by (loss_of config link past))
+    plain_if (is_loss cause) (after_loss config link past) (plain_loss_by (loss_of config link past) (ending config past))
 plain_follow config (Closes reason) past = refl
 
 plain_unasked : (link : ℕ) (behind : Bool) → is_plain (unasked link behind) ≡ true
@@ -206,7 +208,7 @@ plainness config (LinkReady link ∷ past) = (λ _. refl, refl)
 plainness config (LinkBytes link bytes ∷ past) = (λ _. refl, refl)
 plainness config (ClientGone ∷ past) = (λ _. plain_farewells (links past), plain_behind (farewells past) (plain_farewells (links past)))
 plainness config (LinkLost link ∷ past) =
-    (λ _. plain_loss_by (loss_of config link past), plain_behind (after_loss config link past) (plain_loss_by (loss_of config link past)))
+    (λ _. plain_loss_by (loss_of config link past) (ending config past), plain_behind (after_loss config link past) (plain_loss_by (loss_of config link past) (ending config past)))
 plainness config (Ticks reading ∷ past) = (λ _. refl, refl)
 plainness config (Routed words loads next found ∷ past) =
     (λ not. absurd cc, behind_route found _ next _ _ _)
@@ -215,8 +217,8 @@ plainness config (Comes link said ∷ past) =
     (λ _. plain, plain_behind (after_coming config link said (asked_on link past) (reply_number past) past) plain)
 plainness config (Connects said ∷ past) = (λ _. plain_connecting said, plain_behind (after_connecting said) (plain_connecting said))
 plainness config (Takes judged number ∷ past) =
-    let plain = plain_command judged number (own_status (autocommit config past)) in
-    (λ _. plain, plain_behind (after_command judged number (own_status (autocommit config past))) plain)
+    let plain = plain_command judged number (status_of (transaction config past).state) in
+    (λ _. plain, plain_behind (after_command judged number (status_of (transaction config past).state)) plain)
 plainness config (Floods bytes ∷ past) = (λ _. refl, refl)
 plainness config (Starves made number ∷ past) =
     let plain = plain_want (is_over past) made number (farewells past) (plain_farewells (links past)) in

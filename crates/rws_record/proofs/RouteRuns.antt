@@ -98,9 +98,9 @@ no_primary_yet = does_in 16 refl refl
 -- a command by which anything may be changed keeps the session on its link, and the others are given up
 a_session_is_kept : Does
     (Observed primary_first ∷ Begin 1 1 ∷
-    from_client 1 (codes "2b000000037374617274207472616e73616374696f6e207769746820636f6e73697374656e7420736e617073686f74010000000e") ∷ LinkReady 2 ∷ End ∷ [])
+    from_client 1 (codes "090000000363616c6c20702829010000000e") ∷ LinkReady 2 ∷ End ∷ [])
     (takes_in primary_first ∷ routes 1 ∷ opens 2 0 1 ∷
-    to_link 2 (codes "2b000000037374617274207472616e73616374696f6e207769746820636f6e73697374656e7420736e617073686f74") ∷ drops 1 Kept ∷ [])
+    to_link 2 (codes "090000000363616c6c20702829") ∷ drops 1 Kept ∷ [])
 unfolding lenenc lenenc_bytes full_packet spelling number_behind payload_behind first_payload eof_at err_at err_code err_bytes bytes_at number_at fixed_at lenenc_at text_at text_bytes zero_text_at last_text_at ended state_at texts_at ok_at ok_status texts_bytes ok_bytes prepare_ok_at eof_status prepared_counts column_count is_definition is_row progress role client_ok client_form has answer_at name_at attributes_at names_at response_at answer_bytes name_bytes attributes_bytes names_bytes response_front response_bytes abilities_at last_piece_at plugin_at greeting_at abilities_bytes greeting_front back_bytes greeting_bytes switch_at asked_at plugin_asked switch_bytes flags_of response_of reaction class_of same_word forms
 a_session_is_kept = does_in 16 refl refl
 

@@ -20,7 +20,7 @@ use Rattle.rws_record.specs.Item.Put.{Routes, Sends}
 use Rattle.rws_record.specs.Item.Purpose.{Prepares, Asks, Plays}
 use Rattle.rws_record.specs.Judging.{judged}
 use Rattle.rws_record.specs.Values.{accepted, asking, cursor, fronted, goes_on, opens, held, links, linked, pending, routing, sent_on, is_over}
-use Rattle.rws_record.specs.Rules.{next, next_by, owed, due, due_route, due_on, due_sends, due_flood, flood_by, flood_limit, due_arrival, due_take, route_by, prepare_by, play_by, ask_by, is_free, is_link, coming, take_by, unless_asking, ◌or◌}
+use Rattle.rws_record.specs.Rules.{context, next, next_by, owed, due, due_route, due_on, due_sends, due_flood, flood_by, flood_limit, due_arrival, due_take, route_by, prepare_by, play_by, ask_by, is_free, is_link, coming, take_by, unless_asking, ◌or◌}
 use Rattle.rws_record.proofs.LinkedLemmas.{Says, says}
 use Rattle.rws_record.specs.Record.{IsInput}
 
@@ -38,7 +38,7 @@ pub data Due (config : Config) (past : List Item) : Item → Type 0 where
   connects : {said : FrontStep} → pending past ≡ None → (step_of config.accounts (fronted config past)).0 ≡ said
       → IsConnecting said → Due config past (Connects said)
   takes : {payload : Payload} → pending past ≡ None → (step_of config.accounts (fronted config past)).0 ≡ fronts.Command payload
-      → Due config past (Takes (judged payload.bytes payload.next) payload.next)
+      → Due config past (Takes (judged (context config past) payload.bytes payload.next) payload.next)
 
 -- how a record goes on by a step of its own
 pub data Step (config : Config) (past : List Item) : Item → Type 0 where
@@ -177,7 +177,7 @@ module _ (config : Config) (past : List Item) (item : Item) where
       ]
 
   of_take : (command : Option Command) (said : FrontStep) → pending past ≡ command
-      → (step_of config.accounts (fronted config past)).0 ≡ said → take_by command said ≡ Some item → Due config past item
+      → (step_of config.accounts (fronted config past)).0 ≡ said → take_by (context config past) command said ≡ Some item → Due config past item
   of_take (Some command) said p f e = absurd cc
   of_take None fronts.Idle p f e = absurd cc
   of_take None (fronts.Send packets) p f e =
@@ -185,7 +185,7 @@ module _ (config : Config) (past : List Item) (item : Item) where
   of_take None (fronts.LoggedIn login) p f e =
       let same : Connects (fronts.LoggedIn login) ≡ item = cc in as_due same (connects p f lets_in)
   of_take None (fronts.Command payload) p f e =
-      let same : Takes (judged payload.bytes payload.next) payload.next ≡ item = cc in as_due same (takes p f)
+      let same : Takes (judged (context config past) payload.bytes payload.next) payload.next ≡ item = cc in as_due same (takes p f)
   of_take None (fronts.End packets reason) p f e =
       let same : Connects (fronts.End packets reason) ≡ item = cc in as_due same (connects p f ends_it)
 

@@ -127,9 +127,12 @@ after_loss_by StartsReplay ends = []
 after_loss_by SendsElsewhere ends = []
 after_loss_by IsForgotten ends = []
 
+-- why the transaction can't be that is open now
+abbrev pub ending : Config → List Item → CloseReason
+ending config past = not_replayable (transaction_bytes config past) (transaction config past).state
+
 abbrev pub after_loss : Config → ℕ → List Item → List Put
-after_loss config link past =
-    after_loss_by (loss_of config link past) (not_replayable (transaction_bytes config past) (transaction config past).state)
+after_loss config link past = after_loss_by (loss_of config link past) (ending config past)
 
 -- to give a link up is to lose it, but for those that aren't needed any more
 abbrev pub is_loss : DropCause → Bool
