@@ -1,5 +1,5 @@
--- In a session that isn't kept on a link, a command goes where its last route found.
-use Rattle.std.proofs.Common.{◌≡◌, ℕ, Bool, true, false, List, [], ◌∷◌, map, refl, sym, ap, subst, ◌∙◌, inl, inr, Some, None}
+-- In a session that isn't pinned to a link, a command goes where its last route found.
+use Rattle.std.proofs.Common.{◌≡◌, ℕ, Bool, true, false, List, [], ◌∷◌, map, refl, sym, ap, subst, ◌∙◌, inl, inr, Option, Some, None}
 use Rattle.std.specs.Prelude.{◌⊎◌}
 use Rattle.rws_wire.specs.declared.drop_cause.DropCause.TheVariants.{End}
 use Rattle.rws_config.specs.declared.config.Config.{Config}
@@ -7,7 +7,7 @@ use Rattle.rws_record.specs.Item.{Item, Purpose, Put}
 use Rattle.rws_record.specs.Item.Item.{Puts}
 use Rattle.rws_record.specs.Item.Purpose.{Asks}
 use Rattle.rws_record.specs.Item.Put.{Sends, Drops}
-use Rattle.rws_record.specs.Values.{goes_by, links, routing, is_over, is_starved}
+use Rattle.rws_record.specs.Values.{links, or_link, routing, is_over, is_starved}
 use Rattle.rws_record.specs.Rules.{next, owed}
 use Rattle.rws_record.specs.Record.{IsBeginning, IsInput, IsRecord}
 use Rattle.rws_record.specs.Record.IsRecord.{begins, steps, answers, hears, starves}
@@ -101,13 +101,14 @@ module _ (config : Config) (past : List Item) (link : ℕ) (purpose : Purpose) w
   sending legal = by_record legal refl
 
 pub goes_where_found : GoesWhereFound
-goes_where_found config past link command some legal kept =
+goes_where_found config past link command some legal free =
     let now = sending config past link (Asks command) legal in
     by_going (goes_with now.owes now.goes (legal_going now.legal)).1
   where
-    goes : goes_by None (routing config past).assigned ≡ Some link
-    goes = let cause = causes config (Puts (Sends link (Asks command)) ∷ past) legal in
-        let g : goes_by None (routing config past).assigned ≡ Some link = rw kept at cause.0.2 in g
+    goes : or_link None (routing config past).assigned ≡ Some link
+    goes =
+        let cause = causes config (Puts (Sends link (Asks command)) ∷ past) legal in
+        sym (ap (λ (on : Option ℕ). or_link on (routing config past).assigned) free) ∙ cause.0.2
 
     by_going : (HasAssigned config past ⊎ (config.accounts ≡ [])) → Aimed link past
     by_going (inl its) = (its link goes).1

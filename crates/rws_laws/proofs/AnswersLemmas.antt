@@ -9,7 +9,7 @@ use Rattle.rws_record.specs.Item.{Item}
 use Rattle.rws_record.specs.Item.Item.{Puts}
 use Rattle.rws_record.specs.Item.Put.{Routes, Sends}
 use Rattle.rws_record.specs.Item.Purpose.{Prepares, Asks, Plays}
-use Rattle.rws_record.specs.Values.{accepted, asked_on, asking, cursor, fronted, goes_by, goes_on, is_up, links, contains, kept_on, exchange, linked, pending, routing, sent_on, told, is_over}
+use Rattle.rws_record.specs.Values.{accepted, asked_on, asking, cursor, fronted, or_link, goes_on, is_up, links, contains, exchange, linked, pending, routing, sent_on, told, is_over, pinned}
 use Rattle.rws_record.specs.Rules.{ask_by, due_on, due_sends, is_link, next, is_free, owed, play_by, prepare_by, ◌or◌}
 use Rattle.rws_record.specs.Record.{IsRecord}
 use Rattle.rws_record.specs.Run.{record_of}
@@ -29,7 +29,7 @@ use Rattle.rws_laws.proofs.Sound.{Sound, WaitsOn}
 use Rattle.rws_laws.proofs.Sound.WaitsOn.{prepares, repeats, replies}
 use Rattle.rws_laws.proofs.SoundLemmas.{legal_sound}
 use Rattle.rws_laws.proofs.HistoryLemmas.{played_all}
-use Rattle.rws_laws.proofs.GoingLemmas.{HasAssigned, HasKept, goes_with, legal_going}
+use Rattle.rws_laws.proofs.GoingLemmas.{HasAssigned, HasPinned, goes_with, legal_going}
 use Rattle.rws_laws.proofs.ListLemmas.{has_it}
 use Rattle.rws_laws.proofs.RoutedLemmas.{nowhere_last}
 use Rattle.rws_laws.proofs.EndedLemmas.{ended}
@@ -62,7 +62,7 @@ module _ (config : Config) (past : List Item) (legal : IsRecord config past) (qu
   now : Rested config past
   now = rested config past quiet none n
 
-  going : HasKept past × (HasAssigned config past ⊎ (config.accounts ≡ []))
+  going : HasPinned config past × (HasAssigned config past ⊎ (config.accounts ≡ []))
   going = goes_with o n (legal_going legal)
 
   -- neither the preamble, nor an entry of the history, nor the command is due on a link of the session
@@ -136,7 +136,7 @@ module _ (config : Config) (past : List Item) (legal : IsRecord config past) (qu
         (λ is. let up = prepared link here is false u in let clash : false ≡ true = sym u ∙ up in cc)
 
     -- its link is there, but where there is no account
-    goes_there : (kept : Option ℕ) (link : ℕ) → kept_on past ≡ kept → goes_by kept (routing config past).assigned ≡ Some link
+    goes_there : (kept : Option ℕ) (link : ℕ) → pinned config past ≡ kept → or_link kept (routing config past).assigned ≡ Some link
         → (contains link (links past) ≡ true) ⊎ (config.accounts ≡ [])
     goes_there (Some other) link k g = inl (going.0 link (k ∙ g))
     goes_there None link k g = by_assigned going.1
@@ -156,20 +156,20 @@ module _ (config : Config) (past : List Item) (legal : IsRecord config past) (qu
         let its = rests_awaiting config past legal quiet none n command link p s in
         for_reply link its.0 (contained link (links past) there.4) there.2 s its.1 its.2
 
-    kept_nowhere : (kept assigned : Option ℕ) → goes_by kept assigned ≡ None → kept ≡ None
+    kept_nowhere : (kept assigned : Option ℕ) → or_link kept assigned ≡ None → kept ≡ None
     kept_nowhere (Some link) assigned g = absurd cc
     kept_nowhere None assigned g = refl
 
     -- one that goes nowhere waits for a primary, else the worker would be asked
     waits_nowhere : (waits : Bool) → goes_on config past ≡ None → sent_on past ≡ None → (routing config past).waits ≡ waits → Waits config command past
-    waits_nowhere true g s w = for_primary (kept_nowhere (kept_on past) (routing config past).assigned g) s (nowhere_last config past w)
+    waits_nowhere true g s w = for_primary (kept_nowhere (pinned config past) (routing config past).assigned g) s (nowhere_last config past w)
     waits_nowhere false g s w =
         let due = now.routed in
         let clash : Some (Puts Routes) ≡ None = rw (p, g, w) at due in absurd cc
 
     waits_for : (sent goes : Option ℕ) → sent_on past ≡ sent → goes_on config past ≡ goes → Waits config command past
     waits_for (Some link) goes s g = waits_sent link s
-    waits_for None (Some link) s g = waits_on link g s (goes_there (kept_on past) link refl g)
+    waits_for None (Some link) s g = waits_on link g s (goes_there (pinned config past) link refl g)
     waits_for None None s g = waits_nowhere (routing config past).waits g s refl
 
   idle_so : (link : LinkState) → Idles link → IsIdle link
@@ -178,7 +178,7 @@ module _ (config : Config) (past : List Item) (legal : IsRecord config past) (qu
 
   has_answered : HasAnswered config past
   has_answered = record {
-    kept = λ link k. contained link (links past) (going.0 link k);
+    stays = λ link k. contained link (links past) (going.0 link k);
     waits = λ command p. waits_for command p (sent_on past) (goes_on config past) refl refl;
     client = λ p.
         idles_so config past (now.client p)

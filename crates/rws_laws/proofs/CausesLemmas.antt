@@ -121,7 +121,7 @@ due_read {config} {past} (connects {said = said} p f c) sound entering n below =
     (n, (p, said_so config past said f c (front_says config (fronted config past) (steady config past) entering.going)), below)
 due_read {config} {past} (takes {payload = payload} p f) sound entering n below =
     let its = taken_so config past payload f (front_says config (fronted config past) (steady config past) entering.going) in
-    (n, (payload.bytes, took p its.0 its.2), below)
+    (n, (payload.bytes, took {past = past} p its.0 its.2), below)
 
 input_read : (config : Config) (past : List Item) (item : Item) → IsInput item past → is_over past ≡ false
     → AreCaused config past → AreCaused config (item ∷ past)

@@ -37,9 +37,9 @@ use Rattle.rws_record.specs.Requests.{arguments_of, class_by, request_of}
 use Rattle.rws_class.specs.Classes.{class_of}
 use Rattle.rws_class.specs.declared.class.Class.{Class}
 use Rattle.rws_class.specs.declared.class.Class.TheVariants.{Read, PrimaryRead, Write, Session, Begin, BeginReadOnly, Commit, Rollback, AutocommitOn, AutocommitOff, TrxLocal, Ddl, Refused as Forbidden, Other}
-use Rattle.rws_record.specs.Judging.{is_forbidden, judged, judged_as, query_judged}
-use Rattle.rws_record.specs.Values.{class_of_command, contains, fronted, goes_by, goes_on, keeps, kept_by, links, kept_on, asked_on, awaited, exchange, is_up, prepared_by, kind_of, linked, prepared_handle, sent_for, pending, routing, sent_on, reply_number, told, told_from, is_over, unless_link, without}
-use Rattle.rws_record.specs.Rules.{after_keeping, after_loss, after_answer, farewells, follow, is_loss, owed, recording_of}
+use Rattle.rws_record.specs.Judging.{accepted_as, judged, judged_as, judged_by, refusal_of}
+use Rattle.rws_record.specs.Values.{class_of_command, contains, fronted, goes_on, keeps, kept_by, links, kept_on, asked_on, awaited, exchange, is_up, prepared_by, kind_of, linked, prepared_handle, sent_for, pending, routing, sent_on, reply_number, told, told_from, is_over, unless_link, without, or_link, pinned, transaction}
+use Rattle.rws_record.specs.Rules.{after_keeping, after_loss, after_answer, farewells, follow, is_loss, owed, recording_of, context}
 use Rattle.rws_record.proofs.WantLemmas.{closes_soon}
 use Rattle.rws_laws.specs.Client.{Took, begins_with}
 use Rattle.rws_laws.specs.Client.Took.{took}
@@ -125,12 +125,12 @@ just_sent kept (gives_up {other = other} {past = past} just) = by_sent (just_sen
     by_sent (inr s) = inr (rw s refl)
 
 -- a command that keeps the session goes on where it went
-goes_then : (class : Class) (link : ℕ) (kept assigned : Option ℕ) → goes_by kept assigned ≡ Some link
-    → goes_by (kept_by class link kept) assigned ≡ Some link
-goes_then class link (Some other) assigned g = g
-goes_then class link None assigned g = by_test (keeps class)
+goes_then : (class : Class) (link : ℕ) (kept home assigned : Option ℕ) → or_link (or_link kept home) assigned ≡ Some link
+    → or_link (or_link (kept_by class link kept) home) assigned ≡ Some link
+goes_then class link (Some other) home assigned g = g
+goes_then class link None home assigned g = by_test (keeps class)
   where
-    by_test : (test : Bool) → goes_by (if test then Some link else None) assigned ≡ Some link
+    by_test : (test : Bool) → or_link (or_link (if test then Some link else None) home) assigned ≡ Some link
     by_test true = refl
     by_test false = g
 
@@ -303,7 +303,7 @@ module _ (config : Config) (past : List Item) (sound : Sound config past) where
       → Caused config (owed config (Puts (Drops link cause) ∷ past)) (Puts (Drops link cause) ∷ past)
       → Sound config (Puts (Drops link cause) ∷ past)
   drop_sound link cause others o last given owes = record {
-    sent = without_sent (links past) (sent_on past) (kept_on past) (routing config past) link sound.sent;
+    sent = without_sent (links past) (sent_on past) (pinned config past) (routing config past) link sound.sent;
     telling = drop_telling link cause others o last given;
     asks = still_asked refl refl refl sound.asks;
     waits = without_waits (links past) link (owed config past) (owed config (Puts (Drops link cause) ∷ past))
@@ -465,7 +465,7 @@ module _ (config : Config) (past : List Item) (sound : Sound config past) where
         → Sound config (Puts (Sends link (Asks command)) ∷ past)
     send_sound goes up has = record {
       sent = sent_there (λ l. is_up l past) command (pending past) link (goes_on config (Puts (Sends link (Asks command)) ∷ past)) (links past) p
-          (goes_then (class_of_command command) link (kept_on past) (routing config past).assigned goes) up has;
+          (goes_then (class_of_command command) link (kept_on past) (transaction config past).link (routing config past).assigned goes) up has;
       telling = λ n soon. told_sent (told past) (told_from past) (Some link) (pending past) (unsent_told command s p telling_now);
       asks = still_asked refl refl refl sound.asks;
       waits = λ other e has a. now_awaited other e (link == other) refl has a;
@@ -476,46 +476,42 @@ module _ (config : Config) (past : List Item) (sound : Sound config past) where
 
   module _ (payload rest : Payload) (number : ℕ) (p : pending past ≡ None) (c : (fronted config past).phase ≡ Commands) where
     abbrev it : Request → Judged
-    it request = judged_as request (class_by request payload) payload number
+    it request = judged_as (context config past) request (class_by request payload) payload number
 
     took_it : (request : Request) → request_of payload ≡ request
         → begins_with config (fronted config past) 0 ≡ Whole payload number rest
         → Took config payload number (Takes (it request) number ∷ past)
-    took_it request r f = subst (λ (its : Judged). Took config payload number (Takes its number ∷ past)) (ap it r) (took p c f)
+    took_it request r f = subst (λ (its : Judged). Took config payload number (Takes its number ∷ past)) (ap it r) (took {past = past} {rest = rest} p c f)
 
-    -- a query: its text is forbidden, or it goes to a server
-    query_asked : (forbidden : Bool) → it requests.Query ≡ query_judged forbidden payload number
-        → request_of payload ≡ requests.Query → Took config payload number (Takes (query_judged forbidden payload number) number ∷ past)
-        → Asking config (Takes (query_judged forbidden payload number) number ∷ past)
-    query_asked true its r f = λ command e. absurd cc
-    query_asked false its r f = λ command e.
-        subst (λ (its : Command). IsAsked config its (Takes (query_judged false payload number) number ∷ past)) (same_some _ command e)
-        (record { asked = here f (ap it r ∙ its); counts = refl })
-
-    now_asked : (request : Request) → request_of payload ≡ request
-        → begins_with config (fronted config past) 0 ≡ Whole payload number rest
-        → Asking config (Takes (it request) number ∷ past)
-    now_asked requests.Query r f =
-        query_asked (is_forbidden (class_of (arguments_of payload))) refl r (took_it requests.Query r f)
-    now_asked requests.FieldList r f = λ command e.
-        subst (λ (its : Command). IsAsked config its (Takes (it requests.FieldList) number ∷ past)) (same_some _ command e)
-        (record { asked = here (took_it requests.FieldList r f) (ap it r); counts = refl })
-    now_asked requests.InitDb r f = λ command e.
-        subst (λ (its : Command). IsAsked config its (Takes (it requests.InitDb) number ∷ past)) (same_some _ command e)
-        (record { asked = here (took_it requests.InitDb r f) (ap it r); counts = refl })
-    now_asked requests.Quit r f = λ command e. absurd cc
-    now_asked requests.Ping r f = λ command e. absurd cc
-    now_asked requests.Unsupported r f = λ command e. absurd cc
-    now_asked requests.Unknown r f = λ command e. absurd cc
+    -- it is refused, or it goes to a server
+    now_asked : (refusal : Option ProxyError) (request : Request)
+        → Took config payload number (Takes (judged_by refusal request payload number) number ∷ past)
+        → Asking config (Takes (judged_by refusal request payload number) number ∷ past)
+    now_asked (Some error) request taken = λ command e. absurd cc
+    now_asked None requests.Query taken = λ command e.
+        subst (λ (its : Command). IsAsked config its (Takes (accepted_as requests.Query payload number) number ∷ past)) (same_some _ command e)
+        (record { asked = here taken; counts = refl })
+    now_asked None requests.FieldList taken = λ command e.
+        subst (λ (its : Command). IsAsked config its (Takes (accepted_as requests.FieldList payload number) number ∷ past)) (same_some _ command e)
+        (record { asked = here taken; counts = refl })
+    now_asked None requests.InitDb taken = λ command e.
+        subst (λ (its : Command). IsAsked config its (Takes (accepted_as requests.InitDb payload number) number ∷ past)) (same_some _ command e)
+        (record { asked = here taken; counts = refl })
+    now_asked None requests.Quit taken = λ command e. absurd cc
+    now_asked None requests.Ping taken = λ command e. absurd cc
+    now_asked None requests.Unsupported taken = λ command e. absurd cc
+    now_asked None requests.Unknown taken = λ command e. absurd cc
 
     pub take_sound : begins_with config (fronted config past) 0 ≡ Whole payload number rest
-        → Sound config (Takes (judged payload number) number ∷ past)
+        → Sound config (Takes (judged (context config past) payload number) number ∷ past)
     take_sound f = record {
       sent = λ other e. absurd cc;
       telling = λ n soon. none_told;
-      asks = now_asked (request_of payload) refl f;
-      waits = waits_none (links past) (pending (Takes (judged payload number) number ∷ past)) None [] (owed config (Takes (judged payload number) number ∷ past)) p sound.waits;
-      owes = command_caused config payload number (Takes (judged payload number) number ∷ past) (request_of payload) refl (took p c f);
+      asks = now_asked (refusal_of (context config past) (request_of payload) (class_by (request_of payload) payload)) (request_of payload)
+          (took_it (request_of payload) refl f);
+      waits = waits_none (links past) (pending (Takes (judged (context config past) payload number) number ∷ past)) None []
+          (owed config (Takes (judged (context config past) payload number) number ∷ past)) p sound.waits;
+      owes = command_caused config payload number past (judged (context config past) payload number) (request_of payload) refl (took {past = past} {rest = rest} p c f);
     }
 
   -- A payload of an awaited reply

@@ -2,6 +2,7 @@
 use Rattle.std.proofs.Common.{◌≡◌, ℕ, Bool, true, false, List, [], ◌∷◌, ◌++◌, drop, refl, sym, ap, subst, ◌∙◌, eqb-true, inl, inr, Option, Some, None}
 use Rattle.std.proofs.lemmas.Bool.{eq-eqb}
 use Rattle.std.specs.Prelude.{◌≢◌, ◌==◌, ◌⊎◌, Contains, if◌then◌else◌}
+use Rattle.rws_laws.proofs.TransactionLemmas.{answered_there}
 use Rattle.rws_wire.specs.declared.drop_cause.DropCause.{DropCause}
 use Rattle.rws_native.specs.declared.login.Login.{Login}
 use Rattle.rws_class.specs.declared.class.Class.{Class}
@@ -18,13 +19,13 @@ use Rattle.rws_config.specs.declared.config.Config.{Config}
 use Rattle.rws_record.specs.declared.command.Command.{Command}
 use Rattle.rws_record.specs.declared.proxy_error.ProxyError.{ProxyError}
 use Rattle.rws_record.specs.declared.proxy_error.ProxyError.TheVariants.{UnknownCommand, NotSupported, UnknownStatement, BadExecute, TooManyStatements, NotInReadOnly, TooManyConnections, CommandTooLarge, NoPrimary, OutOfMemory}
-use Rattle.rws_record.specs.Item.{Item, Purpose, Put}
+use Rattle.rws_record.specs.Item.{Item, Purpose, Put, Recording}
 use Rattle.rws_record.specs.Item.Item.{Accepted, TurnsAway, Began, ClientBytes, LinkReady, LinkBytes, ClientGone, LinkLost, Ticks, Routed, Puts, Starves}
 use Rattle.rws_record.specs.Item.Purpose.{Prepares, Asks, Plays}
 use Rattle.rws_record.specs.Item.Put.{Hands, Tells, Routes, Opens, LogsInto, Sends, Drops, Closes}
 use Rattle.rws_record.specs.Item.Recording.{Nothing, Accepts, Keeps}
 use Rattle.rws_record.specs.Item.Tell.{Passes, Owns, Refuses}
-use Rattle.rws_record.specs.Values.{class_of_command, contains, first_to, keeps, kept_by, kept_on, link_to, links, login_of, routing, server_of, is_over, without}
+use Rattle.rws_record.specs.Values.{class_of_command, contains, first_to, keeps, kept_by, kept_on, link_to, links, login_of, routing, server_of, is_over, without, answer_to, answered_by, answered_if, class_by_pending, or_link, pinned, speaks, transaction, pending}
 use Rattle.rws_record.specs.Rules.{after_loss, follow, found_in, is_link, owed}
 use Rattle.rws_record.specs.Record.{IsBeginning, IsInput, IsRecord}
 use Rattle.rws_record.specs.Record.IsRecord.{begins, steps, answers, hears, starves}
@@ -41,15 +42,15 @@ use Rattle.rws_laws.proofs.AskedLemmas.{AskedNow, legal_asked}
 use Rattle.rws_laws.proofs.AskedLemmas.AskedNow.{asked_now}
 use Rattle.rws_laws.proofs.CausesLemmas.{causes}
 use Rattle.rws_laws.proofs.EnteringLemmas.{is_entering, legal_entering}
-use Rattle.rws_laws.proofs.LinksLemmas.{Dropped, dropped, kept_closes}
+use Rattle.rws_laws.proofs.LinksLemmas.{Dropped, dropped, pinned_closes}
 use Rattle.rws_laws.proofs.LinksLemmas.Dropped.{for_fault, at_end, since_kept}
 use Rattle.rws_laws.proofs.ListLemmas.{has_it, has_last, has_still, other_stays}
 use Rattle.rws_laws.proofs.RoutedLemmas.{one_to}
 use Rattle.rws_laws.proofs.Sound.{is_not, is_that, same_some}
 use Rattle.rws_laws.proofs.SoundLemmas.{freed}
 
-abbrev pub HasKept : List Item → Type 0
-HasKept past = (link : ℕ) → kept_on past ≡ Some link → contains link (links past) ≡ true
+abbrev pub HasPinned : Config → List Item → Type 0
+HasPinned config past = (link : ℕ) → pinned config past ≡ Some link → contains link (links past) ≡ true
 
 -- the link goes to the server that the last route found
 abbrev pub Aimed : ℕ → List Item → Type 0
@@ -67,7 +68,7 @@ pub data Assigned (config : Config) (past : List Item) : Type 0 where
   nobody : config.accounts ≡ [] → Assigned config past
 
 pub data Going (config : Config) (past : List Item) : Type 0 where
-  stands : HasKept past → Assigned config past → Going config past
+  stands : HasPinned config past → Assigned config past → Going config past
   soon : closes_soon (owed config past) ≡ true → Going config past
   over : is_over past ≡ true → Going config past
 
@@ -91,7 +92,7 @@ assigned_still item o l r f s (nobody none) = nobody none
 
 -- an item that changes nothing of it
 still : {config : Config} {past : List Item} (item : Item) → owed config past ≡ [] → links (item ∷ past) ≡ links past
-    → kept_on (item ∷ past) ≡ kept_on past → (routing config (item ∷ past)).assigned ≡ (routing config past).assigned
+    → pinned config (item ∷ past) ≡ pinned config past → (routing config (item ∷ past)).assigned ≡ (routing config past).assigned
     → found_last (item ∷ past) ≡ found_last past → ((link : ℕ) → server_of link (item ∷ past) ≡ server_of link past)
     → (is_over past ≡ true → is_over (item ∷ past) ≡ true) → Going config past → Going config (item ∷ past)
 still item o l k r f s n (stands kept assigned) =
@@ -139,9 +140,9 @@ module _ (config : Config) (past : List Item) (gone : ℕ) where
       let before = assigned_before gone link (routing config past) a in
       let there = its link before.0 in (other_stays gone link (links past) before.1 there.0, there.1)
 
-  kept_without : HasKept past → is_link gone (kept_on past) ≡ false → (link : ℕ) → kept_on past ≡ Some link
+  kept_without : HasPinned config past → is_link gone (pinned config past) ≡ false → (link : ℕ) → pinned config past ≡ Some link
       → contains link (without gone (links past)) ≡ true
-  kept_without kept elsewhere link k = other_stays gone link (links past) (apart gone link (kept_on past) elsewhere k) (kept link k)
+  kept_without kept elsewhere link k = other_stays gone link (links past) (apart gone link (pinned config past) elsewhere k) (kept link k)
 
 -- What is given out
 
@@ -185,7 +186,7 @@ module _ (config : Config) (past : List Item) (put : Put) (others : List Put) (o
       let behind : closes_soon (drop 1 (owed config past)) ≡ true = ap closes_soon (ap (drop 1) o) ∙ sym same ∙ sym (ap closes_soon o) ∙ s in
       ap closes_soon left ∙ closes_behind (follow config put past) (drop 1 (owed config past)) behind
 
-  paid : is_opening put ≡ false → links (Puts put ∷ past) ≡ links past → kept_on (Puts put ∷ past) ≡ kept_on past
+  paid : is_opening put ≡ false → links (Puts put ∷ past) ≡ links past → pinned config (Puts put ∷ past) ≡ pinned config past
       → (routing config (Puts put ∷ past)).assigned ≡ (routing config past).assigned
       → ((link : ℕ) → server_of link (Puts put ∷ past) ≡ server_of link past)
       → owed config (Puts put ∷ past) ≡ follow config put past ++ drop 1 (owed config past) → closes_soon (put ∷ others) ≡ closes_soon others
@@ -238,18 +239,40 @@ just_kept {config} kept just = its just
     its (gives_up just) = its just
 
 -- a command is sent on a link that the session has
-sent_going : (config : Config) (past : List Item) (link : ℕ) (command : Command) → contains link (links past) ≡ true → HasKept past
-    → HasKept (Puts (Sends link (Asks command)) ∷ past)
+sent_going : (config : Config) (past : List Item) (link : ℕ) (command : Command) → contains link (links past) ≡ true → HasPinned config past
+    → HasPinned config (Puts (Sends link (Asks command)) ∷ past)
 sent_going config past link command here kept = λ other k. by_kept other (kept_on past) refl k
   where
-    by_test : (other : ℕ) (test : Bool) → (if test then Some link else None) ≡ Some other → contains other (links past) ≡ true
-    by_test other true k = ap (λ (l : ℕ). contains l (links past)) (sym (same_some link other k)) ∙ here
-    by_test other false k = absurd cc
-
-    by_kept : (other : ℕ) (before : Option ℕ) → kept_on past ≡ before → kept_by (class_of_command command) link before ≡ Some other
+    by_test : (other : ℕ) (test : Bool) → kept_on past ≡ None
+        → or_link (if test then Some link else None) (transaction config past).link ≡ Some other
         → contains other (links past) ≡ true
-    by_kept other None b k = by_test other (keeps (class_of_command command)) k
-    by_kept other (Some at) b k = kept other (b ∙ k)
+    by_test other true b k = ap (λ (l : ℕ). contains l (links past)) (sym (same_some link other k)) ∙ here
+    by_test other false b k = kept other (ap (λ (on : Option ℕ). or_link on (transaction config past).link) b ∙ k)
+
+    by_kept : (other : ℕ) (before : Option ℕ) → kept_on past ≡ before
+        → or_link (kept_by (class_of_command command) link before) (transaction config past).link ≡ Some other
+        → contains other (links past) ≡ true
+    by_kept other None b k = by_test other (keeps (class_of_command command)) b k
+    by_kept other (Some at) b k = kept other (ap (λ (on : Option ℕ). or_link on (transaction config past).link) b ∙ k)
+
+-- behind a whole reply the session is pinned where it was, or to the link of the reply
+passed_pinned : (config : Config) (past : List Item) (link : ℕ) (outcome : Outcome) → contains link (links past) ≡ true → HasPinned config past
+    → (at : ℕ)
+    → or_link (kept_on past) (answered_by (kept_on past) (pending past) link outcome (routing config past) (transaction config past)).link ≡ Some at
+    → contains at (links past) ≡ true
+passed_pinned config past link outcome here kept at e =
+    by_kept (speaks (or_link (kept_on past) (transaction config past).link) link (class_by_pending (pending past)) (routing config past))
+    (kept_on past) refl e
+  where
+    by_kept : (its : Bool) (before : Option ℕ) → kept_on past ≡ before
+        → or_link before (answered_if its (answer_to (pending past) link outcome) (transaction config past)).link ≡ Some at
+        → contains at (links past) ≡ true
+    by_kept its (Some other) b e = kept at (ap (λ (on : Option ℕ). or_link on (transaction config past).link) b ∙ e)
+    by_kept its None b e =
+        elim (answered_there its (answer_to (pending past) link outcome) (transaction config past) at e) [
+          | inl there ↦ kept at (ap (λ (on : Option ℕ). or_link on (transaction config past).link) b ∙ there)
+          | inr same ↦ ap (λ (l : ℕ). contains l (links past)) (sym same) ∙ here
+        ]
 
 module _ (config : Config) (past : List Item) where
   assigned_dropped : (gone : ℕ) (cause : DropCause) (others : List Put) → owed config past ≡ Drops gone cause ∷ others → Assigned config past
@@ -265,17 +288,18 @@ module _ (config : Config) (past : List Item) where
   drop_going gone cause others o (at_end is) (stands kept assigned) = over is
   drop_going gone cause others o (since_kept link just other) (stands kept assigned) =
       stands (λ at k.
-      let same : link ≡ at = same_some link at (sym (just_kept link just) ∙ k) in
+      let same : link ≡ at =
+      same_some link at (sym (ap (λ (on : Option ℕ). or_link on (transaction config past).link) (just_kept link just)) ∙ k) in
       other_stays gone at (links past) (by_test at same (at == gone) refl) (kept at k)) (assigned_dropped gone cause others o assigned)
     where
       by_test : (at : ℕ) → link ≡ at → (test : Bool) → (at == gone) ≡ test → (at == gone) ≡ false
       by_test at same true t = absurd (other (same ∙ eqb-true at gone t))
       by_test at same false t = t
-  drop_going gone cause others o (for_fault lossy its_loss had) (stands kept assigned) = by_test (is_link gone (kept_on past)) refl
+  drop_going gone cause others o (for_fault lossy its_loss had) (stands kept assigned) = by_test (is_link gone (pinned config past)) refl
     where
-      by_test : (test : Bool) → is_link gone (kept_on past) ≡ test → Going config (Puts (Drops gone cause) ∷ past)
+      by_test : (test : Bool) → is_link gone (pinned config past) ≡ test → Going config (Puts (Drops gone cause) ∷ past)
       by_test true t =
-          let closes = kept_closes config past gone (is_that gone (kept_on past) t) in
+          let closes = pinned_closes config past gone (is_that gone (pinned config past) t) in
           soon (rw lossy (closes_before (after_loss config gone past) (drop 1 (owed config past)) closes))
       by_test false t = stands (kept_without config past gone kept t) (assigned_dropped gone cause others o assigned)
 
@@ -313,15 +337,27 @@ module _ (config : Config) (past : List Item) where
       stands (λ at k. ap (λ (l : ℕ). contains l (links past)) (sym (same_some link at k)) ∙ here)
       (assigned_paid config past (Tells number (Passes link command payload (Some outcome) Keeps)) others o refl refl refl (λ at. refl) assigned)
 
+  pass_going : (number link : ℕ) (command : Command) (payload : Payload) (outcome : Outcome) (recording : Recording) (others : List Put)
+      → owed config past ≡ Tells number (Passes link command payload (Some outcome) recording) ∷ others → contains link (links past) ≡ true
+      → kept_on (Puts (Tells number (Passes link command payload (Some outcome) recording)) ∷ past) ≡ kept_on past
+      → Going config past → Going config (Puts (Tells number (Passes link command payload (Some outcome) recording)) ∷ past)
+  pass_going number link command payload outcome recording others o here same (soon s) =
+      soon (paid_soon config past (Tells number (Passes link command payload (Some outcome) recording)) others o refl refl s)
+  pass_going number link command payload outcome recording others o here same (over is) = over is
+  pass_going number link command payload outcome recording others o here same (stands kept assigned) =
+      stands (λ at k. passed_pinned config past link outcome here kept at
+      (sym (ap (λ (on : Option ℕ). or_link on (answered_by (kept_on past) (pending past) link outcome (routing config past) (transaction config past)).link) same) ∙ k))
+      (assigned_paid config past (Tells number (Passes link command payload (Some outcome) recording)) others o refl refl refl (λ at. refl) assigned)
+
   put_going : (put : Put) (others : List Put) → owed config past ≡ put ∷ others → IsCaused config put past → Going config past
       → Going config (Puts put ∷ past)
   put_going (Hands packets) others o cause going = paid config past (Hands packets) others o refl refl refl refl (λ link. refl) refl refl refl going
   put_going (Tells number (Passes link command payload (Some outcome) Keeps)) others o cause going =
       keep_going number link command payload outcome others o (has_it (links past) link cause.0.has) going
   put_going (Tells number (Passes link command payload (Some outcome) Accepts)) others o cause going =
-      paid config past (Tells number (Passes link command payload (Some outcome) Accepts)) others o refl refl refl refl (λ link. refl) refl refl refl going
+      pass_going number link command payload outcome Accepts others o (has_it (links past) link cause.0.has) refl going
   put_going (Tells number (Passes link command payload (Some outcome) Nothing)) others o cause going =
-      paid config past (Tells number (Passes link command payload (Some outcome) Nothing)) others o refl refl refl refl (λ link. refl) refl refl refl going
+      pass_going number link command payload outcome Nothing others o (has_it (links past) link cause.0.has) refl going
   put_going (Tells number (Passes link command payload None recording)) others o cause going =
       paid config past (Tells number (Passes link command payload None recording)) others o refl refl refl refl (λ link. refl) refl refl refl going
   put_going (Tells number (Owns status)) others o cause going = paid config past (Tells number (Owns status)) others o refl refl refl refl (λ link. refl) refl refl refl going
@@ -361,15 +397,15 @@ step_going (reads o n due) cause going = due_going o due going
 lost_going : {config : Config} {past : List Item} (gone : ℕ) → owed config past ≡ [] → Going config past → Going config (LinkLost gone ∷ past)
 lost_going gone o (soon s) = nothing_soon o s
 lost_going gone o (over is) = over is
-lost_going {config} {past} gone o (stands kept assigned) = by_test (is_link gone (kept_on past)) refl
+lost_going {config} {past} gone o (stands kept assigned) = by_test (is_link gone (pinned config past)) refl
   where
     by_assigned : Assigned config past → Assigned config (LinkLost gone ∷ past)
     by_assigned (has its) = has (assigned_without config past gone its)
     by_assigned (nobody none) = nobody none
     by_assigned (opens_it owes a) = absurd (let clash : [] ≡ Opens _ _ _ ∷ [] = sym o ∙ owes in cc)
 
-    by_test : (test : Bool) → is_link gone (kept_on past) ≡ test → Going config (LinkLost gone ∷ past)
-    by_test true t = soon (kept_closes config past gone (is_that gone (kept_on past) t))
+    by_test : (test : Bool) → is_link gone (pinned config past) ≡ test → Going config (LinkLost gone ∷ past)
+    by_test true t = soon (pinned_closes config past gone (is_that gone (pinned config past) t))
     by_test false t = stands (kept_without config past gone kept t) (by_assigned assigned)
 
 input_going : {config : Config} {past : List Item} (item : Item) → owed config past ≡ [] → IsInput item past → Going config past
@@ -445,7 +481,7 @@ legal_going {config} (starves {past = past} {made = made} {number = number} lega
 
 -- while a session goes on with nothing owed
 pub goes_with : {config : Config} {past : List Item} → owed config past ≡ [] → is_over past ≡ false → Going config past
-    → HasKept past × (HasAssigned config past ⊎ (config.accounts ≡ []))
+    → HasPinned config past × (HasAssigned config past ⊎ (config.accounts ≡ []))
 goes_with o n (soon s) = nothing_soon o s
 goes_with o n (over is) = absurd cc
 goes_with o n (stands kept (has its)) = (kept, inl its)

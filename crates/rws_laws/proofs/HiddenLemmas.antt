@@ -1,6 +1,8 @@
 -- Where the loss of a link hides what became of a command, the session ends, and sends nothing more.
 use Rattle.std.proofs.Common.{◌≡◌, ℕ, Bool, true, false, List, [], ◌∷◌, drop, refl, sym, ap, ◌∙◌, Option, Some, None}
 use Rattle.std.proofs.lemmas.Bool.{eq-eqb}
+use Rattle.rws_laws.proofs.TransactionLemmas.{never_again}
+use Rattle.rws_wire.specs.declared.close_reason.CloseReason.{CloseReason}
 use Rattle.rws_wire.specs.declared.drop_cause.DropCause.{DropCause}
 use Rattle.rws_wire.specs.declared.drop_cause.DropCause.TheVariants.{End, Kept, Replay}
 use Rattle.rws_class.specs.declared.class.Class.{Class}
@@ -11,8 +13,8 @@ use Rattle.rws_record.specs.Item.Item.{Puts, Starves}
 use Rattle.rws_record.specs.Item.Put.{Hands, Tells, Routes, Opens, LogsInto, Sends, Drops, Closes}
 use Rattle.rws_record.specs.Item.Recording.{Nothing, Accepts, Keeps}
 use Rattle.rws_record.specs.Item.Tell.{Passes, Owns, Refuses}
-use Rattle.rws_record.specs.Values.{autocommit, goes_on, kept_on, pending, sent_on, told_from, is_over}
-use Rattle.rws_record.specs.Rules.{after_loss, after_loss_by, again_by, goes_if, is_link, is_loss, loss_by, owed, sends_again}
+use Rattle.rws_record.specs.Values.{goes_on, kept_on, pending, sent_on, told_from, is_over, transaction}
+use Rattle.rws_record.specs.Rules.{after_loss, after_loss_by, again_by, goes_if, is_link, is_loss, loss_by, owed, ending, is_replayable}
 use Rattle.rws_record.specs.Record.{IsRecord}
 use Rattle.rws_record.specs.Record.IsRecord.{begins, steps, answers, hears, starves}
 use Rattle.rws_record.proofs.OpeningLemmas.{asks_open, asks_owing_nothing}
@@ -89,25 +91,20 @@ lossy link Kept e = absurd cc
 lossy link Replay e = absurd cc
 lossy link _ e = refl
 
-never_again : {class : Class} {autocommit : Bool} → MayLast class autocommit → sends_again class autocommit ≡ false
-never_again anything = refl
-never_again definitions = refl
-never_again rows = refl
-
-hidden_by : (told sent again kept assigned : Bool) → sent ≡ true → again ≡ false
-    → closes_soon (after_loss_by (loss_by told sent again kept false false assigned)) ≡ true
-hidden_by true sent again kept assigned s a = refl
-hidden_by false true false kept assigned s a = refl
-hidden_by false false again kept assigned s a = absurd cc
-hidden_by false true true kept assigned s a = absurd cc
+hidden_by : (told sent again kept opened assigned : Bool) (ends : CloseReason) → sent ≡ true → again ≡ false
+    → closes_soon (after_loss_by (loss_by told sent again kept opened is_replayable assigned) ends) ≡ true
+hidden_by true sent again kept opened assigned ends s a = refl
+hidden_by false true false kept opened assigned ends s a = refl
+hidden_by false false again kept opened assigned ends s a = absurd cc
+hidden_by false true true kept opened assigned ends s a = absurd cc
 
 hidden_closes : (config : Config) (link : ℕ) (command : Command) (below : List Item) → IsHidden config link command below
     → closes_soon (after_loss config link below) ≡ true
 hidden_closes config link command below its =
-    hidden_by (is_link link (told_from below)) (is_link link (sent_on below)) (again_by (pending below) (autocommit config below))
-    (is_link link (kept_on below)) (is_link link (goes_if (pending below) (goes_on config below)))
-    (ap (is_link link) its.sent ∙ eq-eqb link link refl)
-    (ap (λ (found : Option Command). again_by found (autocommit config below)) its.pending.waits ∙ never_again its.lasts)
+    hidden_by (is_link link (told_from below)) (is_link link (sent_on below)) (again_by (pending below) (transaction config below).state)
+    (is_link link (kept_on below)) (is_link link (transaction config below).link) (is_link link (goes_if (pending below) (goes_on config below)))
+    (ending config below) (ap (is_link link) its.sent ∙ eq-eqb link link refl)
+    (ap (λ (found : Option Command). again_by found (transaction config below).state) its.pending.waits ∙ never_again its.lasts)
 
 lost_closing : {config : Config} {link : ℕ} {command : Command} {below now : List Item} → Lost link below now → IsHidden config link command below
     → Closing config now

@@ -35,3 +35,4 @@ pub mod EndedLemmas
 pub mod UpLemmas
 pub mod AwaitedLemmas
 pub mod AnswersLemmas
+mod TransactionLemmas

@@ -1,15 +1,16 @@
 -- Why a link is given up, what its loss leads to, and that the links that aren't needed any more are given up one after the other.
-use Rattle.std.proofs.Common.{◌≡◌, ℕ, Bool, true, false, List, [], ◌∷◌, ◌++◌, map, drop, refl, sym, ap, subst, ◌∙◌, Some}
+use Rattle.std.proofs.Common.{◌≡◌, ℕ, Bool, true, false, List, [], ◌∷◌, ◌++◌, map, drop, refl, sym, ap, subst, ◌∙◌, Some, Option, None}
 use Rattle.std.specs.Prelude.{◌≢◌, ◌==◌, Contains, if◌then◌else◌}
 use Rattle.std.proofs.lemmas.Bool.{eq-eqb, eqb-true}
+use Rattle.rws_wire.specs.declared.close_reason.CloseReason.{CloseReason}
 use Rattle.rws_wire.specs.declared.drop_cause.DropCause.{DropCause}
 use Rattle.rws_wire.specs.declared.drop_cause.DropCause.TheVariants.{BadWire, BadReply, Unasked, Greeting, Plugin, Login as LoginFails, End, Kept, SessionDiffers}
 use Rattle.rws_config.specs.declared.config.Config.{Config}
 use Rattle.rws_record.specs.Item.{Item, Put}
 use Rattle.rws_record.specs.Item.Item.{Puts}
 use Rattle.rws_record.specs.Item.Put.{Drops}
-use Rattle.rws_record.specs.Values.{autocommit, contains, goes_on, kept_on, links, pending, sent_on, told_from, is_over, without}
-use Rattle.rws_record.specs.Rules.{after_loss, after_loss_by, again_by, farewells, goes_if, loss_by, is_link, is_loss, owed}
+use Rattle.rws_record.specs.Values.{contains, goes_on, kept_on, links, pending, sent_on, told_from, is_over, without, or_link, pinned, transaction}
+use Rattle.rws_record.specs.Rules.{after_loss, after_loss_by, again_by, farewells, goes_if, loss_by, is_link, is_loss, owed, ending, is_replayable}
 use Rattle.rws_record.proofs.WantLemmas.{closes_soon}
 use Rattle.rws_record.proofs.WithoutLemmas.{without_has_less}
 use Rattle.rws_record.proofs.RecordLemmas.{contained}
@@ -43,31 +44,58 @@ dropped config past link _ caused = absurd caused
 
 -- The loss of a link closes the session where a reply is cut, and where it is kept there
 
-cut_by : (told sent again kept assigned : Bool) → told ≡ true
-    → closes_soon (after_loss_by (loss_by told sent again kept false false assigned)) ≡ true
-cut_by true sent again kept assigned t = refl
-cut_by false sent again kept assigned t = absurd cc
+cut_by : (told sent again kept opened assigned : Bool) (ends : CloseReason) → told ≡ true
+    → closes_soon (after_loss_by (loss_by told sent again kept opened is_replayable assigned) ends) ≡ true
+cut_by true sent again kept opened assigned ends t = refl
+cut_by false sent again kept opened assigned ends t = absurd cc
 
-kept_by : (told sent again kept assigned : Bool) → kept ≡ true
-    → closes_soon (after_loss_by (loss_by told sent again kept false false assigned)) ≡ true
-kept_by true sent again kept assigned k = refl
-kept_by false true false kept assigned k = refl
-kept_by false true true true assigned k = refl
-kept_by false false again true assigned k = refl
-kept_by false true true false assigned k = absurd cc
-kept_by false false again false assigned k = absurd cc
+kept_by : (told sent again kept opened assigned : Bool) (ends : CloseReason) → kept ≡ true
+    → closes_soon (after_loss_by (loss_by told sent again kept opened is_replayable assigned) ends) ≡ true
+kept_by true sent again kept opened assigned ends k = refl
+kept_by false true false kept opened assigned ends k = refl
+kept_by false true true true opened assigned ends k = refl
+kept_by false false again true opened assigned ends k = refl
+kept_by false true true false opened assigned ends k = absurd cc
+kept_by false false again false opened assigned ends k = absurd cc
 
-pub cut_closes : (config : Config) (past : List Item) (link : ℕ) → told_from past ≡ Some link → closes_soon (after_loss config link past) ≡ true
-cut_closes config past link from =
-    cut_by (is_link link (told_from past)) (is_link link (sent_on past)) (again_by (pending past) (autocommit config past))
-    (is_link link (kept_on past)) (is_link link (goes_if (pending past) (goes_on config past)))
-    (ap (is_link link) from ∙ eq-eqb link link refl)
+opened_by : (told sent again kept opened assigned : Bool) (ends : CloseReason) → opened ≡ true
+    → closes_soon (after_loss_by (loss_by told sent again kept opened is_replayable assigned) ends) ≡ true
+opened_by true sent again kept opened assigned ends o = refl
+opened_by false true false kept opened assigned ends o = refl
+opened_by false true true true opened assigned ends o = refl
+opened_by false false again true opened assigned ends o = refl
+opened_by false true true false true assigned ends o = refl
+opened_by false false again false true assigned ends o = refl
+opened_by false true true false false assigned ends o = absurd cc
+opened_by false false again false false assigned ends o = absurd cc
 
-pub kept_closes : (config : Config) (past : List Item) (link : ℕ) → kept_on past ≡ Some link → closes_soon (after_loss config link past) ≡ true
-kept_closes config past link kept =
-    kept_by (is_link link (told_from past)) (is_link link (sent_on past)) (again_by (pending past) (autocommit config past))
-    (is_link link (kept_on past)) (is_link link (goes_if (pending past) (goes_on config past)))
-    (ap (is_link link) kept ∙ eq-eqb link link refl)
+module _ (config : Config) (past : List Item) (link : ℕ) where
+  pub cut_closes : told_from past ≡ Some link → closes_soon (after_loss config link past) ≡ true
+  cut_closes from =
+      cut_by (is_link link (told_from past)) (is_link link (sent_on past)) (again_by (pending past) (transaction config past).state)
+      (is_link link (kept_on past)) (is_link link (transaction config past).link) (is_link link (goes_if (pending past) (goes_on config past)))
+      (ending config past) (ap (is_link link) from ∙ eq-eqb link link refl)
+
+  kept_closes : kept_on past ≡ Some link → closes_soon (after_loss config link past) ≡ true
+  kept_closes kept =
+      kept_by (is_link link (told_from past)) (is_link link (sent_on past)) (again_by (pending past) (transaction config past).state)
+      (is_link link (kept_on past)) (is_link link (transaction config past).link) (is_link link (goes_if (pending past) (goes_on config past)))
+      (ending config past) (ap (is_link link) kept ∙ eq-eqb link link refl)
+
+  opened_closes : (transaction config past).link ≡ Some link → closes_soon (after_loss config link past) ≡ true
+  opened_closes opened =
+      opened_by (is_link link (told_from past)) (is_link link (sent_on past)) (again_by (pending past) (transaction config past).state)
+      (is_link link (kept_on past)) (is_link link (transaction config past).link) (is_link link (goes_if (pending past) (goes_on config past)))
+      (ending config past) (ap (is_link link) opened ∙ eq-eqb link link refl)
+
+  -- so does that of the link that the session is pinned to
+  pub pinned_closes : pinned config past ≡ Some link → closes_soon (after_loss config link past) ≡ true
+  pinned_closes there = by_kept (kept_on past) refl there
+    where
+      by_kept : (kept : Option ℕ) → kept_on past ≡ kept → or_link kept (transaction config past).link ≡ Some link
+          → closes_soon (after_loss config link past) ≡ true
+      by_kept (Some other) k is = kept_closes (k ∙ is)
+      by_kept None k is = opened_closes is
 
 -- Links that are given up one after the other
 

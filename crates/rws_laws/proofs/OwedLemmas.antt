@@ -2,6 +2,7 @@
 use Rattle.std.proofs.Common.{◌≡◌, ℕ, Bool, true, false, List, [], ◌∷◌, ◌++◌, length, refl, sym, ap, subst, ◌∙◌, inl, inr, Option, Some, None}
 use Rattle.std.specs.Prelude.{◌≢◌, ◌⊎◌, ◌&&◌, ◌≤◌, nat_lt, not, Contains, ◌==◌, is_some}
 use Rattle.std.proofs.lemmas.Bool.{cases_lt, eq-eqb, lt-ltb, ltb-true}
+use Rattle.rws_trx.specs.OnLinks.{status_of}
 use Rattle.rws_wire.specs.declared.close_reason.CloseReason.{CloseReason}
 use Rattle.rws_wire.specs.declared.drop_cause.DropCause.TheVariants.{BadReply, Unasked, Login as LoginFails, Kept, SessionDiffers}
 use Rattle.rws_wire.specs.Payloads.{first_payload}
@@ -29,8 +30,8 @@ use Rattle.rws_config.specs.declared.limits.TheConstants.{SERVER_PAYLOAD}
 use Rattle.rws_record.specs.declared.command.Command.{Command}
 use Rattle.rws_record.specs.declared.request.Request.{Request}
 use Rattle.rws_record.specs.declared.request.Request.TheVariants as requests
-use Rattle.rws_record.specs.Item.{Item, Recording, Tell}
-use Rattle.rws_record.specs.Item.Item.{TurnsAway, Comes, Connects, Puts}
+use Rattle.rws_record.specs.Item.{Item, Judged, Recording, Tell}
+use Rattle.rws_record.specs.Item.Item.{TurnsAway, Comes, Connects, Takes, Puts}
 use Rattle.rws_record.specs.Item.Purpose.{Prepares, Asks, Plays}
 use Rattle.rws_record.specs.Item.Recording.{Nothing, Accepts, Keeps}
 use Rattle.rws_record.specs.Item.Put.{Hands, Tells, Drops, Closes}
@@ -38,10 +39,10 @@ use Rattle.rws_record.specs.Item.Tell.{Passes}
 use Rattle.rws_class.specs.Classes.{class_of}
 use Rattle.rws_class.specs.declared.class.Class.{Class}
 use Rattle.rws_class.specs.declared.class.Class.TheVariants.{Read, PrimaryRead, Write, Session, Begin, BeginReadOnly, Commit, Rollback, AutocommitOn, AutocommitOff, TrxLocal, Ddl, Refused as Forbidden, Other}
-use Rattle.rws_record.specs.Judging.{is_forbidden, judged_as, query_judged}
+use Rattle.rws_record.specs.Judging.{changes, is_forbidden, judged_as, judged_by, refusal_by}
 use Rattle.rws_record.specs.Requests.{arguments_of, class_by, request_of}
-use Rattle.rws_record.specs.Values.{accepted, autocommit, class_by_pending, class_of_command, fronted, is_session, goes_on, links, kept_on, asked_on, awaited, exchange, linked, prepared_handle, link_held, pending, sent_on, reply_number, told, told_from, is_over, without}
-use Rattle.rws_record.specs.Rules.{again_by, goes_if, is_link, after_loss, after_loss_by, loss_by, own_status, sends_again, after_command, after_connecting, after_flood, after_keeping, after_played, after_preparing, after_turning_away, after_answer, form_of, recording_by, recording_of, unasked}
+use Rattle.rws_record.specs.Values.{accepted, class_by_pending, class_of_command, fronted, is_session, goes_on, links, kept_on, asked_on, awaited, exchange, linked, prepared_handle, link_held, pending, sent_on, reply_number, told, told_from, is_over, without, transaction, transaction_bytes}
+use Rattle.rws_record.specs.Rules.{again_by, goes_if, is_link, after_loss, after_loss_by, loss_by, after_command, after_connecting, after_flood, after_keeping, after_played, after_preparing, after_turning_away, after_answer, form_of, recording_by, recording_of, unasked, context, ending, is_full, is_read_only, is_replay_off, is_replayable}
 use Rattle.rws_record.proofs.LinkedLemmas.{after_part_is}
 use Rattle.rws_record.proofs.RecordLemmas.{contained}
 use Rattle.rws_laws.specs.Client.{Took, Flooded, IsPending, IsSaid, Refused}
@@ -52,12 +53,12 @@ use Rattle.rws_laws.specs.Client.Asked.{before}
 use Rattle.rws_laws.specs.Servers.{IsNoReply, Lost, came_on}
 use Rattle.rws_laws.specs.Servers.IsWrong.{wrong}
 use Rattle.rws_laws.specs.Servers.WasUnasked.{behind_reply, earlier}
-use Rattle.rws_laws.specs.Causes.{HasSet, IsCut, IsHidden, IsOfReply, IsPassed, IsRecorded, MayLast, SetsSession, status_by}
+use Rattle.rws_laws.specs.Causes.{HasSet, IsBarred, IsCut, IsEnded, IsHidden, IsOfReply, IsPassed, IsRecorded, SetsSession}
 use Rattle.rws_laws.specs.Causes.JustKept.{fills}
-use Rattle.rws_laws.specs.Causes.SetsSession.{sets, sets_autocommit}
-use Rattle.rws_laws.specs.Causes.MayLast.{anything, definitions, rows}
+use Rattle.rws_laws.specs.Causes.SetsSession.{sets, sets_autocommit, unsets_autocommit}
 use Rattle.rws_laws.proofs.CameLemmas.{left_by, part_leaves}
 use Rattle.rws_laws.proofs.LinksLemmas.{StaysCaused, others_caused}
+use Rattle.rws_laws.proofs.TransactionLemmas.{barred_class, both, lasting, not_again, only_reads}
 use Rattle.rws_laws.proofs.ListLemmas.{has_it, other_stays}
 use Rattle.rws_laws.proofs.Sound.{Caused, Sent, ToldBy, Telling, IsAsked, Asking, is_that, is_not}
 use Rattle.rws_laws.proofs.Sound.Caused.{nothing, drops, leaves as leaves_behind, closes, hands, tells}
@@ -77,33 +78,10 @@ uncut link command none_told n s p = refl
 uncut link command (a_part some) n s p = absurd (n s)
 uncut link command all n s p = absurd cc
 
--- which commands aren't sent again
-lasting : (class : Class) (autocommit : Bool) → sends_again class autocommit ≡ false → MayLast class autocommit
-lasting Other autocommit e = anything
-lasting Ddl autocommit e = definitions
-lasting Write true e = rows
-lasting Write false e = absurd cc
-lasting Read autocommit e = absurd cc
-lasting PrimaryRead autocommit e = absurd cc
-lasting Session autocommit e = absurd cc
-lasting Begin autocommit e = absurd cc
-lasting BeginReadOnly autocommit e = absurd cc
-lasting Commit autocommit e = absurd cc
-lasting Rollback autocommit e = absurd cc
-lasting AutocommitOn autocommit e = absurd cc
-lasting AutocommitOff autocommit e = absurd cc
-lasting TrxLocal autocommit e = absurd cc
-lasting Forbidden autocommit e = absurd cc
-
-not_again : {class : Class} {autocommit : Bool} → MayLast class autocommit → sends_again class autocommit ≡ true → ⊥
-not_again anything e = absurd cc
-not_again definitions e = absurd cc
-not_again rows e = absurd cc
-
 module _ (config : Config) (below past : List Item) (link : ℕ) (lost : Lost link below past) (sent : Sent config below) (telling : Telling below)
     (asks : Asking config below) where
   abbrev again : Bool
-  again = again_by (pending below) (autocommit config below)
+  again = again_by (pending below) (transaction config below).state
 
   its_command : sent_on below ≡ Some link → (command : Command) × IsPending config command below
   its_command s = let there = sent link s in (there.0, record { waits = there.1; asked = (asks there.0 there.1).asked })
@@ -117,43 +95,59 @@ module _ (config : Config) (below past : List Item) (link : ℕ) (lost : Lost li
   not_hidden true false s a none command is = absurd cc
   not_hidden true true s a none command is =
       not_again is.lasts
-      (ap (λ (found : Option Command). again_by found (autocommit config below)) (sym is.pending.waits) ∙ a)
+      (ap (λ (found : Option Command). again_by found (transaction config below).state) (sym is.pending.waits) ∙ a)
 
   hides : (command : Command) → IsPending config command below → sent_on below ≡ Some link → again ≡ false → is_link link (told_from below) ≡ false
       → IsHidden config link command below
   hides command is s a t = record {
     pending = is;
     sent = s;
-    lasts = lasting (class_of_command command) (autocommit config below)
-        (ap (λ (found : Option Command). again_by found (autocommit config below)) (sym is.waits) ∙ a);
+    lasts = lasting (class_of_command command) (transaction config below).state
+        (ap (λ (found : Option Command). again_by found (transaction config below).state) (sym is.waits) ∙ a);
     none = uncut link command telling (is_not link (told_from below) t) s is.waits;
   }
 
-  losing : (its_part sent_there its_again is_kept assigned : Bool) → is_link link (told_from below) ≡ its_part
+  ended : is_link link (transaction config below).link ≡ true
+      → IsEnded config link (transaction_bytes config below) (transaction config below).state.tainted
+      (is_read_only (transaction config below).state.opened) is_replay_off below
+  ended o = record {
+    open_on = is_that link (transaction config below).link o;
+    counts = refl;
+    had_error = refl;
+    only_reads = only_reads (transaction config below).state.opened;
+    is_off = refl;
+  }
+
+  losing : (its_part sent_there its_again is_kept is_opened assigned : Bool) → is_link link (told_from below) ≡ its_part
       → is_link link (sent_on below) ≡ sent_there → again ≡ its_again → is_link link (kept_on below) ≡ is_kept
-      → Caused config (after_loss_by (loss_by its_part sent_there its_again is_kept false false assigned)) past
-  losing true sent_there its_again is_kept assigned t s a k =
+      → is_link link (transaction config below).link ≡ is_opened
+      → Caused config (after_loss_by (loss_by its_part sent_there its_again is_kept is_opened is_replayable assigned) (ending config below)) past
+  losing true sent_there its_again is_kept is_opened assigned t s a k o =
       let from = is_that link (told_from below) t in
       let part = cut link telling from in
       let command = its_command part.1 in
       closes (link, below, command.0, lost, record { pending = command.1; from = from; some = part.0 })
-  losing false true false is_kept assigned t s a k =
+  losing false true false is_kept is_opened assigned t s a k o =
       let on = is_that link (sent_on below) s in
       let command = its_command on in
       closes (link, below, command.0, lost, hides command.0 command.1 on a t)
-  losing false true true true assigned t s a k =
+  losing false true true true is_opened assigned t s a k o =
       closes (link, below, lost, is_that link (kept_on below) k, not_cut t, not_hidden true true s a refl)
-  losing false false its_again true assigned t s a k =
+  losing false false its_again true is_opened assigned t s a k o =
       closes (link, below, lost, is_that link (kept_on below) k, not_cut t, not_hidden false its_again s a refl)
-  losing false true true false true t s a k = nothing
-  losing false true true false false t s a k = nothing
-  losing false false its_again false true t s a k = nothing
-  losing false false its_again false false t s a k = nothing
+  losing false true true false true assigned t s a k o =
+      closes (link, below, lost, ended o, is_not link (kept_on below) k, not_cut t, not_hidden true true s a refl)
+  losing false false its_again false true assigned t s a k o =
+      closes (link, below, lost, ended o, is_not link (kept_on below) k, not_cut t, not_hidden false its_again s a refl)
+  losing false true true false false true t s a k o = nothing
+  losing false true true false false false t s a k o = nothing
+  losing false false its_again false false true t s a k o = nothing
+  losing false false its_again false false false t s a k o = nothing
 
   pub loss_caused : Caused config (after_loss config link below) past
   loss_caused =
       losing (is_link link (told_from below)) (is_link link (sent_on below)) again (is_link link (kept_on below))
-      (is_link link (goes_if (pending below) (goes_on config below))) refl refl refl refl
+      (is_link link (transaction config below).link) (is_link link (goes_if (pending below) (goes_on config below))) refl refl refl refl refl
 
 -- A command is answered, whatever it is
 
@@ -173,28 +167,62 @@ forbidden_is TrxLocal e = absurd cc
 forbidden_is Ddl e = absurd cc
 forbidden_is Other e = absurd cc
 
-status_is : (on : Bool) → own_status on ≡ status_by on
-status_is true = refl
-status_is false = refl
+-- a command for a server: its text is forbidden, or it changes something in a read-only transaction, or it goes on its way
+module _ (config : Config) (payload : Payload) (number status : ℕ) (below : List Item) (it : Judged)
+    (taken : Took config payload number (Takes it number ∷ below)) where
+  abbrev now : List Item
+  now = Takes it number ∷ below
 
-query_caused : (config : Config) (payload : Payload) (number status : ℕ) (past : List Item) (forbidden : Bool)
-    → is_forbidden (class_of (arguments_of payload)) ≡ forbidden → request_of payload ≡ requests.Query
-    → Took config payload number past → Caused config (after_command (query_judged forbidden payload number) number status) past
-query_caused config payload number status past true f r taken =
-    tells (payload, taken, inr (r, forbidden_is (class_of (arguments_of payload)) f)) nothing
-query_caused config payload number status past false f r taken = nothing
+  query_caused : (class : Class) (forbidden changing : Bool) → class_of (arguments_of payload) ≡ class → is_forbidden class ≡ forbidden
+      → (is_read_only (transaction config below).state.opened && changes (is_full config below) class) ≡ changing
+      → request_of payload ≡ requests.Query
+      → Caused config (after_command (judged_by (refusal_by false false false false false false forbidden changing) requests.Query payload number) number status) now
+  query_caused class true changing its f c r = tells (payload, taken, inr (r, its ∙ forbidden_is class f)) nothing
+  query_caused class false true its f c r =
+      let two = both (is_read_only (transaction config below).state.opened) (changes (is_full config below) class) c in
+      tells (
+        payload,
+        taken,
+        (only_reads (transaction config below).state.opened).0 two.0,
+        inl (r, subst (λ (k : Class). IsBarred config now k) (sym its) (barred_class config now class f two.1)),
+      ) nothing
+  query_caused class false false its f c r = nothing
 
-pub command_caused : (config : Config) (payload : Payload) (number : ℕ) (past : List Item) (request : Request)
-    → request_of payload ≡ request → Took config payload number past
-    → Caused config (after_command (judged_as request (class_by request payload) payload number) number (own_status (autocommit config past))) past
-command_caused config payload number past requests.Quit r taken = closes (payload, number, taken, r)
-command_caused config payload number past requests.Ping r taken = tells (payload, taken, r, status_is (autocommit config past)) nothing
-command_caused config payload number past requests.Query r taken =
-    query_caused config payload number (own_status (autocommit config past)) past (is_forbidden (class_of (arguments_of payload))) refl r taken
-command_caused config payload number past requests.FieldList r taken = nothing
-command_caused config payload number past requests.InitDb r taken = nothing
-command_caused config payload number past requests.Unsupported r taken = tells (payload, taken, inl r) nothing
-command_caused config payload number past requests.Unknown r taken = tells (payload, taken, r) nothing
+  choice_caused : (changing : Bool) → (is_read_only (transaction config below).state.opened && is_full config below) ≡ changing
+      → request_of payload ≡ requests.InitDb
+      → Caused config (after_command (judged_by (refusal_by false false false false false false false changing) requests.InitDb payload number) number status) now
+  choice_caused true c r =
+      let two = both (is_read_only (transaction config below).state.opened) (is_full config below) c in
+      tells (
+        payload,
+        taken,
+        (only_reads (transaction config below).state.opened).0 two.0,
+        inr (r, barred_class config now Session refl two.1),
+      ) nothing
+  choice_caused false c r = nothing
+
+  fields_caused : (read_only : Bool)
+      → Caused config (after_command (judged_by (refusal_by false false false false false false false (read_only && false)) requests.FieldList payload number) number status) now
+  fields_caused true = nothing
+  fields_caused false = nothing
+
+pub command_caused : (config : Config) (payload : Payload) (number : ℕ) (below : List Item) (it : Judged) (request : Request)
+    → request_of payload ≡ request → Took config payload number (Takes it number ∷ below)
+    → Caused config (after_command (judged_as (context config below) request (class_by request payload) payload number) number (status_of (transaction config below).state))
+    (Takes it number ∷ below)
+command_caused config payload number below it requests.Quit r taken = closes (payload, number, taken, r)
+command_caused config payload number below it requests.Ping r taken = tells (payload, taken, r, refl) nothing
+command_caused config payload number below it requests.Query r taken =
+    query_caused config payload number (status_of (transaction config below).state) below it taken (class_of (arguments_of payload))
+    (is_forbidden (class_of (arguments_of payload)))
+    (is_read_only (transaction config below).state.opened && changes (is_full config below) (class_of (arguments_of payload))) refl refl refl r
+command_caused config payload number below it requests.FieldList r taken =
+    fields_caused config payload number (status_of (transaction config below).state) below it taken (is_read_only (transaction config below).state.opened)
+command_caused config payload number below it requests.InitDb r taken =
+    choice_caused config payload number (status_of (transaction config below).state) below it taken
+    (is_read_only (transaction config below).state.opened && is_full config below) refl r
+command_caused config payload number below it requests.Unsupported r taken = tells (payload, taken, inl r) nothing
+command_caused config payload number below it requests.Unknown r taken = tells (payload, taken, r) nothing
 
 pub flood_caused : (config : Config) (bytes : ℕ) (past : List Item) → Flooded config bytes past → Caused config (after_flood bytes) past
 flood_caused config bytes past noted = tells (bytes, noted, refl) (closes (past, refl, noted))
@@ -381,7 +409,7 @@ session_class Begin e = absurd cc
 session_class BeginReadOnly e = absurd cc
 session_class Commit e = absurd cc
 session_class Rollback e = absurd cc
-session_class AutocommitOff e = absurd cc
+session_class AutocommitOff e = unsets_autocommit
 session_class TrxLocal e = absurd cc
 session_class Ddl e = absurd cc
 session_class Forbidden e = absurd cc
@@ -390,6 +418,7 @@ session_class Other e = absurd cc
 no_session : {class : Class} → SetsSession class → is_session class ≡ false → ⊥
 no_session sets e = absurd cc
 no_session sets_autocommit e = absurd cc
+no_session unsets_autocommit e = absurd cc
 
 pub recorded : (config : Config) (command : Command) (outcome : Outcome) (link : ℕ) (said : LinkStep) (past : List Item) → pending past ≡ Some command
     → IsRecorded config command outcome (recording_of config past outcome) (Comes link said ∷ past)

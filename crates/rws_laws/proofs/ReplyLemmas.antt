@@ -3,6 +3,7 @@
 use Rattle.std.proofs.Common.{◌≡◌, ℕ, Bool, true, false, List, [], ◌∷◌, ◌++◌, map, drop, refl, sym, ap, subst, ◌∙◌, Option, Some, None}
 use Rattle.std.specs.Prelude.{◌≢◌, ◌==◌, if◌then◌else◌}
 use Rattle.std.proofs.lemmas.Bool.{eqb-true}
+use Rattle.rws_wire.specs.declared.close_reason.CloseReason.{CloseReason}
 use Rattle.rws_wire.specs.Packets.{number_behind}
 use Rattle.rws_wire.specs.declared.drop_cause.DropCause.{DropCause}
 use Rattle.rws_wire.specs.declared.drop_cause.DropCause.TheVariants.{End, Kept}
@@ -20,8 +21,8 @@ use Rattle.rws_record.specs.Item.Item.{Puts}
 use Rattle.rws_record.specs.Item.Recording.{Nothing}
 use Rattle.rws_record.specs.Item.Tell.{Passes, Owns, Refuses}
 use Rattle.rws_record.specs.Item.Put.{Hands, Tells, Routes, Opens, LogsInto, Sends, Drops, Closes}
-use Rattle.rws_record.specs.Values.{contains, goes_by, pending, reply_number, told, unless_link, without}
-use Rattle.rws_record.specs.Rules.{Loss, after_keeping, after_loss_by, after_route, is_loss, loss_of, after_loss, opening, owed, refusing}
+use Rattle.rws_record.specs.Values.{contains, or_link, pending, reply_number, told, unless_link, without}
+use Rattle.rws_record.specs.Rules.{Loss, after_keeping, after_loss_by, after_route, is_loss, loss_of, after_loss, opening, owed, refusing, ending}
 use Rattle.rws_record.proofs.WithoutLemmas.{without_has_less}
 use Rattle.rws_record.specs.Rules.Loss.{CutsReply, HidesOutcome, TakesState, EndsTransaction, StartsReplay, SendsElsewhere, IsForgotten}
 use Rattle.rws_laws.specs.Causes.{number_behind_all}
@@ -114,15 +115,15 @@ lost_keeps true cleared r t = absurd cc
 lost_keeps false cleared r t = refl
 
 -- a command that was sent elsewhere goes on there
-pub goes_without : (kept : Option ℕ) (r : Routing) (gone link : ℕ) → goes_by kept r.assigned ≡ Some link → (link == gone) ≡ false
-    → goes_by kept (lost gone r).assigned ≡ Some link
+pub goes_without : (kept : Option ℕ) (r : Routing) (gone link : ℕ) → or_link kept r.assigned ≡ Some link → (link == gone) ≡ false
+    → or_link kept (lost gone r).assigned ≡ Some link
 goes_without (Some other) r gone link g n = g
 goes_without None r gone link g n =
     lost_keeps (is_at gone r.assigned) (record r { assigned = None; tried = tried_by r.target r.tried }) r (ap (is_at gone) g ∙ n) ∙ g
 
 pub without_sent : {pending : Option Command} {up : ℕ → Bool} (links : List ℕ) (sent kept : Option ℕ) (r : Routing) (gone : ℕ)
-    → SentBy pending sent (goes_by kept r.assigned) up links
-    → SentBy pending (unless_link gone sent) (goes_by kept (lost gone r).assigned) up (without gone links)
+    → SentBy pending sent (or_link kept r.assigned) up links
+    → SentBy pending (unless_link gone sent) (or_link kept (lost gone r).assigned) up (without gone links)
 without_sent links sent kept r gone its = λ link s.
     let before = unless_before gone link sent s in
     let there = its link before.0 in
@@ -196,17 +197,17 @@ passed_both (Drops link cause ∷ rest) others = passed_both rest others
 passed_both (Closes reason ∷ rest) others = passed_both rest others
 
 -- what a loss brings passes nothing
-loss_passes : (loss : Loss) → passed (after_loss_by loss) ≡ []
-loss_passes CutsReply = refl
-loss_passes HidesOutcome = refl
-loss_passes TakesState = refl
-loss_passes EndsTransaction = refl
-loss_passes StartsReplay = refl
-loss_passes SendsElsewhere = refl
-loss_passes IsForgotten = refl
+loss_passes : (loss : Loss) (ends : CloseReason) → passed (after_loss_by loss ends) ≡ []
+loss_passes CutsReply ends = refl
+loss_passes HidesOutcome ends = refl
+loss_passes TakesState ends = refl
+loss_passes EndsTransaction ends = refl
+loss_passes StartsReplay ends = refl
+loss_passes SendsElsewhere ends = refl
+loss_passes IsForgotten ends = refl
 
 pub lost_passes : (config : Config) (link : ℕ) (past : List Item) → passed (after_loss config link past) ≡ []
-lost_passes config link past = loss_passes (loss_of config link past)
+lost_passes config link past = loss_passes (loss_of config link past) (ending config past)
 
 lossy_passes : (lossy : Bool) (list others : List Put) → passed list ≡ [] → passed ((if lossy then list else []) ++ others) ≡ passed others
 lossy_passes true list others none = passed_both list others ∙ ap (λ (l : List Payload). l ++ passed others) none
