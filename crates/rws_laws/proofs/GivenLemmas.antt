@@ -81,7 +81,7 @@ record IsQuiet (config : Config) (put : Put) (past : List Item) : Type 0 where
   links : links (Puts put ∷ past) ≡ links past
 
 -- an error of the proxy's own changes nothing of where the pending command goes
-refused_goes : (config : Config) (past : List Item) (number : ℕ) (error : ProxyError)
+pub refused_goes : (config : Config) (past : List Item) (number : ℕ) (error : ProxyError)
     → goes_on config (Puts (Tells number (Refuses error)) ∷ past) ≡ goes_on config past
 refused_goes config past number UnknownCommand = refl
 refused_goes config past number NotSupported = refl
@@ -125,7 +125,7 @@ just_sent kept (gives_up {other = other} {past = past} just) = by_sent (just_sen
     by_sent (inr s) = inr (rw s refl)
 
 -- a command that keeps the session goes on where it went
-goes_then : (class : Class) (link : ℕ) (kept home assigned : Option ℕ) → or_link (or_link kept home) assigned ≡ Some link
+pub goes_then : (class : Class) (link : ℕ) (kept home assigned : Option ℕ) → or_link (or_link kept home) assigned ≡ Some link
     → or_link (or_link (kept_by class link kept) home) assigned ≡ Some link
 goes_then class link (Some other) home assigned g = g
 goes_then class link None home assigned g = by_test (keeps class)

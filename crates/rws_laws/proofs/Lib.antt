@@ -30,6 +30,9 @@ pub mod OnceLemmas
 pub mod GoingLemmas
 pub mod AimedLemmas
 pub mod HiddenLemmas
+pub mod PinnedLemmas
+-- the law on what counts for a transaction
+pub mod CountsLemmas
 -- the law on what a session that rests has answered
 pub mod EndedLemmas
 pub mod UpLemmas

@@ -1,5 +1,5 @@
 //! Laws about a session's record. Each function does nothing; its contract is the law, which is proved with it.
-ghost use Rattle.rws_laws.specs.Laws.{Answered, AnsweredInRuns, Causes, CausesInRuns, GoesWhereFound, NothingBehindHidden, OneLinkEach, PlaysInOrder, SetsBeforeItAsks, SetsInOrder, WholeReplies};
+ghost use Rattle.rws_laws.specs.Laws.{Answered, AnsweredInRuns, Causes, CausesInRuns, CountsItsLog, GoesWhereFound, NothingBehindHidden, OneLinkEach, PinnedTakesNoRoute, PlaysInOrder, SetsBeforeItAsks, SetsInOrder, StaysOnItsLink, WholeReplies};
 
 /// All that a session read, told, opened, sent, dropped and closed has its cause in what stands below it: in the bytes of the
 /// client and of its links.
@@ -33,9 +33,20 @@ pub fn one_link_each()
     ensures { OneLinkEach }
 {}
 
-/// A session that isn't kept on a link sends a command to the server that the command's last route found.
+/// A session that isn't pinned to a link sends a command to the server that the command's last route found.
 pub fn goes_where_found()
     ensures { GoesWhereFound }
+{}
+
+/// A session that is pinned to a link sends the client's commands there, and takes no route.
+pub fn stays_on_its_link()
+    ensures sends { StaysOnItsLink }
+    ensures routes { PinnedTakesNoRoute }
+{}
+
+/// How many bytes count for a transaction is how many the commands of its log have.
+pub fn counts_its_log()
+    ensures { CountsItsLog }
 {}
 
 /// Where a link is lost, and with it what became of a command that may have changed something, the session sends nothing more.

@@ -9,6 +9,6 @@
 mod law;
 
 pub use law::{
-    causes, goes_where_found, has_answered, links_are_set_alike, nothing_behind_hidden,
-    one_link_each, replies_are_whole,
+    causes, counts_its_log, goes_where_found, has_answered, links_are_set_alike,
+    nothing_behind_hidden, one_link_each, replies_are_whole, stays_on_its_link,
 };
