@@ -134,7 +134,7 @@ goes_then class link None home assigned g = by_test (keeps class)
     by_test true = refl
     by_test false = g
 
-keeps_is : (class : Class) → keeps class ≡ true → class ≡ Other
+pub keeps_is : (class : Class) → keeps class ≡ true → class ≡ Other
 keeps_is Other k = refl
 keeps_is Ddl k = absurd cc
 keeps_is Write k = absurd cc

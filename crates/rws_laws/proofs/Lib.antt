@@ -31,6 +31,9 @@ pub mod GoingLemmas
 pub mod AimedLemmas
 pub mod HiddenLemmas
 pub mod PinnedLemmas
+pub mod ItemLemmas
+pub mod SettledLemmas
+pub mod WritesLemmas
 -- the law on what counts for a transaction
 pub mod CountsLemmas
 -- the law on what a session that rests has answered

@@ -1,5 +1,5 @@
 //! Laws about a session's record. Each function does nothing; its contract is the law, which is proved with it.
-ghost use Rattle.rws_laws.specs.Laws.{Answered, AnsweredInRuns, Causes, CausesInRuns, CountsItsLog, GoesWhereFound, NothingBehindHidden, OneLinkEach, PinnedTakesNoRoute, PlaysInOrder, SetsBeforeItAsks, SetsInOrder, StaysOnItsLink, WholeReplies};
+ghost use Rattle.rws_laws.specs.Laws.{Answered, AnsweredInRuns, Causes, CausesInRuns, CountsItsLog, GoesWhereFound, NothingBehindHidden, OneLinkEach, PinnedTakesNoRoute, PlaysInOrder, SetsBeforeItAsks, SetsInOrder, StaysOnItsLink, WholeReplies, WritesAtPrimary};
 
 /// All that a session read, told, opened, sent, dropped and closed has its cause in what stands below it: in the bytes of the
 /// client and of its links.
@@ -42,6 +42,11 @@ pub fn goes_where_found()
 pub fn stays_on_its_link()
     ensures sends { StaysOnItsLink }
     ensures routes { PinnedTakesNoRoute }
+{}
+
+/// A transaction that may write is open at the server that the last route gave as primary.
+pub fn writes_at_primary()
+    ensures { WritesAtPrimary }
 {}
 
 /// How many bytes count for a transaction is how many the commands of its log have.
