@@ -1,5 +1,5 @@
 -- How many bytes count for a transaction is how many the commands of its log have.
-use Rattle.std.proofs.Common.{◌≡◌, ℕ, ◌+◌, Bool, true, false, List, [], ◌∷◌, ◌++◌, length, refl, sym, ap, ◌∙◌, arith, inl, inr, Option, Some, None}
+use Rattle.std.proofs.Common.{◌≡◌, ℕ, ◌+◌, Bool, true, false, List, [], ◌∷◌, ◌++◌, length, sym, ap, ◌∙◌, arith, inl, inr, Some, None}
 use Rattle.std.specs.Prelude.{◌-◌, ◌^◌, ◌≤◌, ◌<◌, ◌⊎◌, min}
 use Rattle.std.proofs.lemmas.Bool.{cases_lt}
 use Rattle.std.proofs.Math.Nat.{min-eq_left, min-eq_right, zero-min}
@@ -9,7 +9,6 @@ use Rattle.rws_trx.specs.declared.state.Course.TheVariants.{GoesOn, Begins, IsNo
 use Rattle.rws_trx.specs.declared.transaction.Answer.{Answer}
 use Rattle.rws_trx.specs.declared.transaction.Transaction.{Transaction}
 use Rattle.rws_trx.specs.OnLinks.{added, by_course, course_of}
-use Rattle.rws_record.specs.declared.command.Command.{Command}
 use Rattle.rws_record.specs.Item.{Item}
 use Rattle.rws_record.specs.Item.Item.{Accepted, TurnsAway, Began, ClientBytes, LinkReady, LinkBytes, ClientGone, LinkLost, Ticks, Routed, Comes, Connects, Takes, Floods, Puts, Starves}
 use Rattle.rws_record.specs.Item.Put.{Hands, Tells, Routes, Opens, LogsInto, Sends, Drops, Closes}

@@ -5,7 +5,6 @@ use Rattle.rws_laws.proofs.TransactionLemmas.{never_again}
 use Rattle.rws_wire.specs.declared.close_reason.CloseReason.{CloseReason}
 use Rattle.rws_wire.specs.declared.drop_cause.DropCause.{DropCause}
 use Rattle.rws_wire.specs.declared.drop_cause.DropCause.TheVariants.{End, Kept, Replay}
-use Rattle.rws_class.specs.declared.class.Class.{Class}
 use Rattle.rws_config.specs.declared.config.Config.{Config}
 use Rattle.rws_record.specs.declared.command.Command.{Command}
 use Rattle.rws_record.specs.Item.{Item, Put}
@@ -23,8 +22,7 @@ use Rattle.rws_record.proofs.StepLemmas.Step.{pays, asks, prepares, plays, sends
 use Rattle.rws_record.proofs.WantLemmas.{closes_soon}
 use Rattle.rws_laws.specs.Servers.{Lost, lost_by}
 use Rattle.rws_laws.specs.Servers.Lost.{closed, given_up}
-use Rattle.rws_laws.specs.Causes.{IsHidden, MayLast}
-use Rattle.rws_laws.specs.Causes.MayLast.{anything, definitions, rows}
+use Rattle.rws_laws.specs.Causes.{IsHidden}
 use Rattle.rws_laws.specs.Laws.{NothingBehindHidden, WasHidden}
 use Rattle.rws_laws.specs.Laws.WasHidden.{here, since}
 use Rattle.rws_laws.proofs.AimedLemmas.{sending}

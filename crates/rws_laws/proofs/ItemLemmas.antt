@@ -1,5 +1,5 @@
 -- A property of legal records, by their items; and what the item says that is an answer of the worker, or takes up a command.
-use Rattle.std.proofs.Common.{◌≡◌, ℕ, Bool, true, false, List, [], ◌∷◌, refl, sym, ap, subst, ◌∙◌, Option, Some, None}
+use Rattle.std.proofs.Common.{◌≡◌, ℕ, Bool, true, false, List, [], ◌∷◌, refl, sym, ap, subst, ◌∙◌, Some, None}
 use Rattle.std.specs.Prelude.{◌&&◌}
 use Rattle.rws_pool.specs.declared.words.PoolWords.{PoolWords}
 use Rattle.rws_select.specs.declared.selector.Load.{Load}
@@ -83,8 +83,7 @@ by_took : (config : Config) (payload : List ℕ) (it : Judged) (number code : �
     → now ≡ Takes it number ∷ past → (pending past ≡ None) × (it ≡ judged (context config past) payload code)
 by_took config payload it number code past (took {past = below} p f b) is =
     let below_is : below ≡ past = cc in
-    let it_is : judged (context config below) payload code ≡ it = cc in
-    (
+    let it_is : judged (context config below) payload code ≡ it = cc in (
       ap pending (sym below_is) ∙ p,
       sym it_is ∙ ap (λ (items : List Item). judged (context config items) payload code) below_is,
     )

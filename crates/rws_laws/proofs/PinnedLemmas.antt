@@ -4,14 +4,13 @@ use Rattle.std.specs.Prelude.{◌⊎◌, if◌then◌else◌}
 use Rattle.rws_class.specs.declared.class.Class.{Class}
 use Rattle.rws_config.specs.declared.config.Config.{Config}
 use Rattle.rws_reply.specs.declared.kind.Outcome.{Outcome}
-use Rattle.rws_record.specs.declared.command.Command.{Command}
 use Rattle.rws_record.specs.Item.{Item}
 use Rattle.rws_record.specs.Item.Item.{Accepted, TurnsAway, Began, ClientBytes, LinkReady, LinkBytes, ClientGone, LinkLost, Ticks, Routed, Comes, Connects, Takes, Floods, Puts, Starves}
 use Rattle.rws_record.specs.Item.Put.{Hands, Tells, Routes, Opens, LogsInto, Sends, Drops, Closes}
 use Rattle.rws_record.specs.Item.Purpose.{Prepares, Asks, Plays}
 use Rattle.rws_record.specs.Item.Recording.{Nothing, Accepts, Keeps}
 use Rattle.rws_record.specs.Item.Tell.{Passes, Owns, Refuses}
-use Rattle.rws_record.specs.Values.{answer_to, answered_by, answered_if, class_by_pending, class_of_command, goes_on, keeps, kept_by, kept_on, or_link, pending, pinned, routing, sent_on, speaks, transaction}
+use Rattle.rws_record.specs.Values.{answer_to, answered_by, class_by_pending, class_of_command, goes_on, keeps, kept_by, kept_on, or_link, pending, pinned, routing, sent_on, speaks, transaction}
 use Rattle.rws_laws.specs.Causes.{AreCaused}
 use Rattle.rws_laws.specs.Laws.{PinnedTakesNoRoute, StaysOnItsLink}
 use Rattle.rws_laws.proofs.CausesLemmas.{causes}

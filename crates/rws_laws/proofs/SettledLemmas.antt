@@ -1,5 +1,5 @@
 -- Where the transaction of a session is open, and where the pending command goes.
-use Rattle.std.proofs.Common.{◌≡◌, ℕ, Bool, true, false, List, [], ◌∷◌, refl, sym, ap, subst, ◌∙◌, Option, Some, None}
+use Rattle.std.proofs.Common.{◌≡◌, ℕ, Bool, true, false, List, refl, sym, ap, subst, ◌∙◌, Option, Some, None}
 use Rattle.std.specs.Prelude.{◌&&◌, ◌||◌, is_none, is_some, not, if◌then◌else◌}
 use Rattle.rws_class.specs.declared.class.Class.{Class}
 use Rattle.rws_class.specs.declared.class.Class.TheVariants.{Read, PrimaryRead, Write, Session, Begin, BeginReadOnly, Commit, Rollback, AutocommitOn, AutocommitOff, TrxLocal, Ddl, Refused as Forbidden, Other}
@@ -9,7 +9,6 @@ use Rattle.rws_trx.specs.declared.state.Course.TheVariants.{GoesOn, Begins, IsNo
 use Rattle.rws_trx.specs.declared.state.Open.{Open}
 use Rattle.rws_trx.specs.declared.state.Open.TheVariants.{Nothing as NotOpen, ReadWrite, ReadOnly}
 use Rattle.rws_trx.specs.declared.state.TrxState.{TrxState}
-use Rattle.rws_trx.specs.declared.transaction.Answer.{Answer}
 use Rattle.rws_trx.specs.declared.transaction.Transaction.{Transaction}
 use Rattle.rws_trx.specs.Transactions.{begins, begins_read_only, goes_on as stays_open, is_open, is_read_only as opens_read_only, is_transaction, shows_open}
 use Rattle.rws_trx.specs.OnLinks.{IsPlaced, answered, by_course}

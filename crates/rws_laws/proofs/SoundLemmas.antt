@@ -31,7 +31,7 @@ use Rattle.rws_record.specs.Item.{Item, Purpose, Put}
 use Rattle.rws_record.specs.Item.Item.{Accepted, TurnsAway, Began, ClientBytes, LinkReady, LinkBytes, ClientGone, LinkLost, Ticks, Routed, Comes, Connects, Floods, Puts}
 use Rattle.rws_record.specs.Item.Purpose.{Prepares, Plays}
 use Rattle.rws_record.specs.Item.Put.{Routes, Drops}
-use Rattle.rws_record.specs.Values.{fronted, goes_on, held, login_of, link_to, links, contains, kept_on, now, reply_number, routing, asked_on, awaited, exchange, is_up, kind_of, linked, link_held, unread, pending, sent_on, told, is_over, is_starved, pinned}
+use Rattle.rws_record.specs.Values.{fronted, goes_on, held, login_of, link_to, links, contains, now, reply_number, routing, asked_on, awaited, exchange, is_up, kind_of, linked, link_held, unread, pending, sent_on, told, is_over, is_starved, pinned}
 use Rattle.rws_record.specs.Rules.{after_loss, after_connecting, after_flood, after_played, after_preparing, flood_limit, found_in, drop_cause, farewells, is_free, is_ready, is_same, owed, unasked}
 use Rattle.rws_record.specs.Record.{IsBeginning, IsRecord, IsInput}
 use Rattle.rws_record.specs.Record.IsRecord.{begins, steps, answers as answered, hears, starves}

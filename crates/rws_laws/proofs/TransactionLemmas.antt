@@ -1,7 +1,7 @@
 -- What the state of the transaction means for a command: when what it did may last, and what a read-only one doesn't take.
 use Rattle.std.proofs.Common.{◌≡◌, ℕ, Bool, true, false, refl, sym, ap, ◌∙◌, inl, inr, length, List}
 use Rattle.std.proofs.lemmas.Bool.{cases_lt, lt-ltb}
-use Rattle.std.specs.Prelude.{◌⊎◌, ◌↔◌, ◌≤◌, not, ◌&&◌, ◌||◌, Option, Some, None}
+use Rattle.std.specs.Prelude.{◌⊎◌, ◌↔◌, ◌≤◌, not, ◌&&◌, ◌||◌, Some, None}
 use Rattle.rws_class.specs.declared.class.Class.{Class}
 use Rattle.rws_class.specs.declared.class.Class.TheVariants.{Read, PrimaryRead, Write, Session, Begin, BeginReadOnly, Commit, Rollback, AutocommitOn, AutocommitOff, TrxLocal, Ddl, Refused as Forbidden, Other}
 use Rattle.rws_trx.specs.declared.state.Course.{Course}

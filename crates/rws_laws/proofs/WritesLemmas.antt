@@ -1,16 +1,14 @@
 -- A transaction that may write is open at the server that the last route gave as primary.
 use Rattle.std.proofs.Common.{◌≡◌, ℕ, Bool, true, false, List, [], ◌∷◌, length, refl, sym, ap, subst, ◌∙◌, Option, Some, None}
-use Rattle.std.specs.Prelude.{◌≢◌, ◌≤◌, ◌==◌, nat_lt, not, if◌then◌else◌}
+use Rattle.std.specs.Prelude.{◌≢◌, ◌≤◌, not, if◌then◌else◌}
 use Rattle.std.proofs.lemmas.Bool.{le-ltb}
 use Rattle.rws_class.specs.declared.class.Class.{Class}
-use Rattle.rws_class.specs.declared.class.Class.TheVariants.{Other}
 use Rattle.rws_reply.specs.declared.kind.Outcome.{Outcome}
 use Rattle.rws_reply.specs.Replies.{Payload}
 use Rattle.rws_native.specs.declared.login.Login.{Login}
 use Rattle.rws_pool.specs.declared.words.PoolWords.{PoolWords}
 use Rattle.rws_select.specs.declared.selector.Load.{Load}
 use Rattle.rws_select.specs.Choice.{choice_of}
-use Rattle.rws_trx.specs.declared.state.Open.TheVariants.{ReadWrite, ReadOnly}
 use Rattle.rws_trx.specs.declared.transaction.Transaction.{Transaction}
 use Rattle.rws_trx.specs.OnLinks.{IsPlaced}
 use Rattle.rws_route.specs.declared.destination.Target.{Target}
@@ -28,12 +26,12 @@ use Rattle.rws_record.specs.Item.Put.{Hands, Tells, Routes, Opens, LogsInto, Sen
 use Rattle.rws_record.specs.Item.Purpose.{Prepares, Asks, Plays}
 use Rattle.rws_record.specs.Item.Recording.{Nothing, Accepts, Keeps}
 use Rattle.rws_record.specs.Item.Tell.{Passes, Owns, Refuses}
-use Rattle.rws_record.specs.Judging.{changes, judged}
+use Rattle.rws_record.specs.Judging.{changes}
 use Rattle.rws_record.specs.Values.{accepted, banned, class_by_pending, class_of_command, goes_on, keeps, kept_by, kept_on, or_link, pending, pinned, routing, sent_on, server_of, speaks, transaction}
 use Rattle.rws_record.specs.Rules.{context, found_in, is_full}
 use Rattle.rws_record.specs.Record.{IsRecord}
 use Rattle.rws_laws.specs.Client.{Took}
-use Rattle.rws_laws.specs.Causes.{AreCaused, HasSet, IsAt, IsCaused, IsOpening, IsPassed, IsRecorded, found_last}
+use Rattle.rws_laws.specs.Causes.{AreCaused, IsAt, IsOpening, found_last}
 use Rattle.rws_laws.specs.Laws.{WritesAtPrimary, found_lately}
 use Rattle.rws_laws.proofs.AimedLemmas.{goes_where_found}
 use Rattle.rws_laws.proofs.CausesLemmas.{causes}
