@@ -16,6 +16,7 @@ pub mod WorkedRuns
 pub mod LoginRuns
 pub mod RouteRuns
 pub mod HistoryRuns
+pub mod TransactionRuns
 -- the laws on the records in a run
 pub mod OrderLemmas
 pub mod RecordLemmas

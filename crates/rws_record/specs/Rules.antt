@@ -24,7 +24,6 @@ use Rattle.rws_link.specs.declared.step.LinkCause.TheVariants as losses
 use Rattle.rws_link.specs.declared.step.LinkStep.{LinkStep}
 use Rattle.rws_link.specs.declared.step.LinkStep.TheVariants as steps
 use Rattle.rws_link.specs.Stepping.{LinkState, LogsIn, Rests, Awaits, IsLost, step}
-use Rattle.rws_class.specs.declared.class.Class.{Class}
 use Rattle.rws_trx.specs.declared.state.Open.{Open}
 use Rattle.rws_trx.specs.declared.state.Open.TheVariants.{Nothing as IsNone, ReadWrite, ReadOnly}
 use Rattle.rws_trx.specs.declared.state.TrxState.{TrxState}
