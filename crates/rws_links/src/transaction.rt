@@ -1,5 +1,6 @@
 //! What a reply to the pending command means for the session's transaction, and what the transaction means for a command.
 ghost use Rattle.std.specs.Prelude.{◌≡◌};
+ghost use Rattle.rws_trx.specs.OnLinks.{added};
 ghost use Rattle.rws_record.specs.Judging.{changes};
 ghost use Rattle.rws_record.specs.Rules.{again_by, not_replayable};
 ghost use Rattle.rws_record.specs.Values.{answer_to, answered_by, class_by_pending, is_session, length_by, speaks};
@@ -32,7 +33,7 @@ pub fn sets_session(pending: &Option<ClassedCommand>) -> bool
 }
 
 /// How long the pending command is, in bytes.
-pub fn pending_bytes(pending: &Option<ClassedCommand>) -> u64
+fn pending_bytes(pending: &Option<ClassedCommand>) -> u64
     ensures { result ≡ length_by pending.now }
 {
     match pending {
@@ -93,12 +94,16 @@ fn speaks(pinned: Option<u64>, link: u64, class: Class, routing: Routing) -> boo
     there || class == Class::BeginReadOnly
 }
 
-/// Why a transaction can't be replayed whose commands have so many bytes: no transaction is.
-pub fn not_replayable(bytes: u64, state: TrxState) -> CloseReason
-    ensures { result ≡ not_replayable bytes state }
+/// Why the session ends with its open transaction while this command is pending: no transaction is replayed.
+pub fn not_replayable(
+    pending: &Option<ClassedCommand>,
+    transaction: Transaction,
+) -> CloseReason
+    ensures { result ≡ not_replayable (added transaction.bytes (length_by pending.now)) transaction.state }
 {
+    let state = transaction.state;
     CloseReason::NotReplayable {
-        bytes,
+        bytes: transaction.bytes.saturating_add(pending_bytes(pending)),
         tainted: state.tainted,
         read_only: state.opened == Open::ReadOnly,
         off: true,

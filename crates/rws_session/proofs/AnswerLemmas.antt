@@ -92,10 +92,10 @@ module _ (config : Config) (past : List Item) (words : PoolWords) (loads : List 
 
 -- what was found for what is kept is what the record finds
 found_same : (config : Config) (past : List Item) (words : PoolWords) (loads : List Load) (found : Target) (k : Kept) → Is config k past
-    → found ≡ target_of (class_by_pending k.state.pending) k.state.autocommit is_sent_back words loads k.state.routing.tried k.state.banned
+    → found ≡ target_of (class_by_pending k.state.pending) k.state.transaction.state.autocommit is_sent_back words loads k.state.routing.tried k.state.banned
     → found ≡ found_in config past words loads
 found_same config past words loads found k is e =
-    subst (λ (s : State). found ≡ target_of (class_by_pending s.pending) s.autocommit is_sent_back words loads s.routing.tried s.banned) is.mirrors e
+    subst (λ (s : State). found ≡ target_of (class_by_pending s.pending) s.transaction.state.autocommit is_sent_back words loads s.routing.tried s.banned) is.mirrors e
 
 answered : (config : Config) (past : List Item) (words : PoolWords) (loads : List Load) (next_link : ℕ) (found : Target) (old new : Kept)
     (opened : Bool) → Asking config old past → found ≡ found_in config past words loads
@@ -111,7 +111,7 @@ answered config past words loads next_link found old new false asks same taken =
 
 pub answered_or_not : {E : Type 0} (config : Config) (past : List Item) (words : PoolWords) (loads : List Load) (next_link : ℕ) (found : Target)
     (old new : Kept) (result : Result Bool E) → Asking config old past
-    → found ≡ target_of (class_by_pending old.state.pending) old.state.autocommit is_sent_back words loads old.state.routing.tried old.state.banned
+    → found ≡ target_of (class_by_pending old.state.pending) old.state.transaction.state.autocommit is_sent_back words loads old.state.routing.tried old.state.banned
     → IfOk result (λ opened. TakesRoute (puts_for config found next_link old.state) next_link
     (routes found (first_to (server_in found) old.state.links) next_link old) new opened)
     → IfOk result (λ opened. Answers config (answer_to config past words loads next_link) next_link past old new opened)

@@ -14,6 +14,8 @@ use Rattle.rws_front.specs.Connection.{step_of}
 use Rattle.rws_front.specs.Fronting.{Fronting}
 use Rattle.rws_link.specs.declared.step.LinkStep.{LinkStep}
 use Rattle.rws_link.specs.declared.step.LinkStep.TheVariants as steps
+use Rattle.rws_trx.specs.declared.transaction.Transaction.{Transaction}
+use Rattle.rws_trx.specs.OnLinks.{status_of}
 use Rattle.rws_board.specs.declared.action.Action.{Action}
 use Rattle.rws_board.specs.declared.action.Action.TheVariants as actions
 use Rattle.rws_config.specs.declared.config.Config.{Config}
@@ -24,9 +26,9 @@ use Rattle.rws_record.specs.Item.Judged.{Leaves, Pings, IsRefused, Serves}
 use Rattle.rws_record.specs.Item.Put.{Hands, Tells, Routes, Opens, LogsInto, Sends, Drops, Closes}
 use Rattle.rws_record.specs.Item.Tell.{Passes, Owns, Refuses}
 use Rattle.rws_record.specs.Item.Purpose.{Prepares, Asks, Plays}
-use Rattle.rws_record.specs.Judging.{judged}
-use Rattle.rws_record.specs.Values.{accepted, asked_on, autocommit, banned, banned_by, class_of_command, contains, fronted, goes_on, held, is_up, keeps, kept_on, linked, links, pending, reply_number, routing, server_of}
-use Rattle.rws_record.specs.Rules.{after_answer, after_coming, after_command, after_connecting, after_flood, after_keeping, after_part, due_arrival, due_flood, due_route, due_sends, due_take, flood_by, flood_limit, form_of, is_ready, is_same, next, owed, own_status, recording_of, route_by, take_by, taking}
+use Rattle.rws_record.specs.Judging.{Context, judged}
+use Rattle.rws_record.specs.Values.{accepted, asked_on, banned, banned_by, class_of_command, contains, fronted, goes_on, held, is_up, keeps, kept_on, linked, links, pending, reply_number, routing, server_of, transaction}
+use Rattle.rws_record.specs.Rules.{after_answer, after_coming, after_command, after_connecting, after_flood, after_keeping, after_part, context, due_arrival, due_flood, due_route, due_sends, due_take, flood_by, flood_limit, form_of, is_ready, is_same, next, owed, recording_of, route_by, take_by, taking}
 use Rattle.rws_record.specs.Outputs.{outs_for}
 use Rattle.rws_record.proofs.StepLemmas.{IsConnecting}
 use Rattle.rws_record.proofs.StepLemmas.IsConnecting.{sends_back, lets_in, ends_it}
@@ -44,7 +46,7 @@ use Rattle.rws_links.specs.Links.{asked_for, link_of}
 use Rattle.rws_session.specs.State.{State, erased, state_of}
 use Rattle.rws_links.specs.Table.{AreDistinct, ReadsFirst, SendsOn, bans, needs_prepared}
 use Rattle.rws_session.specs.Kept.{Kept, Is}
-use Rattle.rws_session.specs.Steps.{SendsEntry, SendsPending, SendsPreamble, TakesSaid, Tries, Went, action_of, after_out, connects, due_put, ends_reply, gives, is_unrouted, notes, owes, owes_for, owes_part, owes_reply, pending_by, recounted, sends_in, stands_at, takes, takes_coming, unsent}
+use Rattle.rws_session.specs.Steps.{SendsEntry, SendsPending, SendsPreamble, TakesSaid, Tries, Went, action_of, after_out, connects, context_in, due_put, ends_reply, gives, is_unrouted, notes, owes, owes_for, owes_part, owes_reply, pending_by, recounted, sends_in, stands_at, takes, takes_coming, transaction_behind, unsent}
 use Rattle.rws_session.proofs.FrontLemmas.{idle_stays}
 use Rattle.rws_links.proofs.DistinctLemmas.{links_distinct}
 use Rattle.rws_links.proofs.FindLemmas.{due_can_go, due_is, due_item, item_of, playing}
@@ -102,20 +104,26 @@ paid config past old mid new out is first left given =
           };
         }
 
--- the last payload of a reply went out: what it means for the history was noted first
-pub passed_last : (old noting told new : Kept) (number link behind : ℕ) (payload : List ℕ) (outcome : Outcome) (recording : Recording)
+-- The last payload of a reply went out: what it means for the transaction was known before, and what it means for the history was
+-- noted first.
+pub passed_last : (old noting told new : Kept) (number link behind : ℕ) (payload : List ℕ) (outcome : Outcome) (t : Transaction) (recording : Recording)
+    → t ≡ transaction_behind link outcome old.state
     → noting ≡ record old { state = notes link recording old.state }
     → told ≡ record noting { outs = noting.outs ++ actions.ToClient noting.number (spelling number payload) ∷ [] }
     → behind ≡ number_behind number payload
-    → new ≡ record told { state = ends_reply behind link outcome recording told.state }
+    → new ≡ record told { state = ends_reply behind link t recording told.state }
     → new ≡ gives (outs.Pass number link payload (Some outcome) recording) old
-passed_last old noting told new number link behind payload outcome recording noted_so told_so behind_so now =
-    now ∙ ap (λ (n : ℕ). record told { state = ends_reply n link outcome recording told.state }) behind_so
-    ∙ ap (λ (k : Kept). record k { state = ends_reply (number_behind number payload) link outcome recording k.state }) told_so
+passed_last old noting told new number link behind payload outcome t recording moved noted_so told_so behind_so now =
+    now ∙ ap (λ (n : ℕ). record told { state = ends_reply n link t recording told.state }) behind_so
+    ∙ ap (λ (k : Kept). record k { state = ends_reply (number_behind number payload) link t recording k.state }) told_so
     ∙ ap (λ (k : Kept). record k {
       outs = k.outs ++ actions.ToClient k.number (spelling number payload) ∷ [];
-      state = ends_reply (number_behind number payload) link outcome recording k.state;
+      state = ends_reply (number_behind number payload) link t recording k.state;
     }) noted_so
+    ∙ ap (λ (t : Transaction). record old {
+      outs = old.outs ++ actions.ToClient old.number (spelling number payload) ∷ [];
+      state = ends_reply (number_behind number payload) link t recording (notes link recording old.state);
+    }) moved
 
 -- The worker is asked
 
@@ -411,7 +419,7 @@ pub busy : (config : Config) (past : List Item) (k : Kept) → Is config k past 
 busy config past k is some = by_pending (pending past) (rw is.mirrors at some)
   where
     by_pending : (command : Option Command) → is_some command ≡ true
-        → take_by command (step_of config.accounts (fronted config past)).0 ≡ None
+        → take_by (context config past) command (step_of config.accounts (fronted config past)).0 ≡ None
     by_pending None e = absurd cc
     by_pending (Some command) e = refl
 
@@ -441,10 +449,10 @@ pub took : (config : Config) (past : List Item) (old mid new : Kept) (payload : 
     → is_some old.state.pending ≡ false
     → (fronts.Command payload, mid.state.front) ≡ step_of config.accounts old.state.front
     → mid ≡ record old { state = stands_at mid.state.front old.state }
-    → new ≡ record mid { state = takes (judged payload.bytes payload.next) payload.next mid.state }
+    → new ≡ record mid { state = takes (judged (context config past) payload.bytes payload.next) payload.next mid.state }
     → Went config (due_take config past) past old new
 took config past old mid new payload is o free says rest now =
-    let judgement = judged payload.bytes payload.next in
+    let judgement = judged (context config past) payload.bytes payload.next in
     let it = says_so config past old (fronts.Command payload) mid.state.front is says in
     record {
       item = Takes judgement payload.next;
@@ -455,7 +463,7 @@ took config past old mid new payload is o free says rest now =
         state = ap (λ (k : Kept). k.state) now
             ∙ ap (λ (k : Kept). takes judgement payload.next k.state) rest
             ∙ ap (λ (s : State). takes judgement payload.next (stands_at mid.state.front s)) is.mirrors
-            ∙ rw (o, append-nil (map erased (after_command judgement payload.next (own_status (autocommit config past)))), it.1, pending_is past judgement payload.next) refl;
+            ∙ rw (o, append-nil (map erased (after_command judgement payload.next (status_of (transaction config past).state))), it.1, pending_is past judgement payload.next) refl;
       };
     }
 
@@ -474,17 +482,17 @@ took_nothing config past old new is free says rest =
     )
 
 -- it says something else
-connecting_due : (said : FrontStep) → IsConnecting said → taking said ≡ Some (Connects said)
-connecting_due (fronts.Send packets) c = refl
-connecting_due (fronts.LoggedIn login) c = refl
-connecting_due (fronts.End packets reason) c = refl
-connecting_due fronts.Idle c = absurd (by_case fronts.Idle refl c)
+connecting_due : (now : Context) (said : FrontStep) → IsConnecting said → taking now said ≡ Some (Connects said)
+connecting_due now (fronts.Send packets) c = refl
+connecting_due now (fronts.LoggedIn login) c = refl
+connecting_due now (fronts.End packets reason) c = refl
+connecting_due now fronts.Idle c = absurd (by_case fronts.Idle refl c)
   where
     by_case : (said : FrontStep) → said ≡ fronts.Idle → IsConnecting said → ⊥
     by_case said e sends_back = cc
     by_case said e lets_in = cc
     by_case said e ends_it = cc
-connecting_due (fronts.Command payload) c = absurd (by_case (fronts.Command payload) refl c)
+connecting_due now (fronts.Command payload) c = absurd (by_case (fronts.Command payload) refl c)
   where
     by_case : (said : FrontStep) → said ≡ fronts.Command payload → IsConnecting said → ⊥
     by_case said e sends_back = cc
@@ -500,7 +508,7 @@ connected config past old mid new said is o free connecting says rest now =
     let it = says_so config past old said mid.state.front is says in
     record {
       item = Connects said;
-      is_due = rw (none_pending config past old is free, it.0) (connecting_due said connecting);
+      is_due = rw (none_pending config past old is free, it.0) (connecting_due (context config past) said connecting);
       made = record {
         number = ap (λ (k : Kept). k.number) now ∙ ap (λ (k : Kept). k.number) rest;
         outs = ap (λ (k : Kept). k.outs) now ∙ ap (λ (k : Kept). k.outs) rest ∙ sym (append-nil old.outs);
@@ -512,25 +520,25 @@ connected config past old mid new said is o free connecting says rest now =
     }
 
 -- what is taken up has nothing to do with that number
-counts_later : (said : FrontStep) (went : Bool) (old new : Kept) → TakesSaid said went old new
-    → TakesSaid said went (recounted old) (recounted new)
-counts_later fronts.Idle false old new now = ap recounted now
-counts_later fronts.Idle true old new now = absurd now
-counts_later (fronts.Command payload) true old new now = ap recounted now
-counts_later (fronts.Command payload) false old new now = absurd now
-counts_later (fronts.Send packets) true old new now = ap recounted now
-counts_later (fronts.Send packets) false old new now = absurd now
-counts_later (fronts.LoggedIn login) true old new now = ap recounted now
-counts_later (fronts.LoggedIn login) false old new now = absurd now
-counts_later (fronts.End packets reason) true old new now = ap recounted now
-counts_later (fronts.End packets reason) false old new now = absurd now
+counts_later : (judging : Context) (said : FrontStep) (went : Bool) (old new : Kept) → TakesSaid judging said went old new
+    → TakesSaid judging said went (recounted old) (recounted new)
+counts_later judging fronts.Idle false old new now = ap recounted now
+counts_later judging fronts.Idle true old new now = absurd now
+counts_later judging (fronts.Command payload) true old new now = ap recounted now
+counts_later judging (fronts.Command payload) false old new now = absurd now
+counts_later judging (fronts.Send packets) true old new now = ap recounted now
+counts_later judging (fronts.Send packets) false old new now = absurd now
+counts_later judging (fronts.LoggedIn login) true old new now = ap recounted now
+counts_later judging (fronts.LoggedIn login) false old new now = absurd now
+counts_later judging (fronts.End packets reason) true old new now = ap recounted now
+counts_later judging (fronts.End packets reason) false old new now = absurd now
 
 -- what it said was taken up
 by_said : (config : Config) (past : List Item) (old mid new : Kept) (said : FrontStep) (went : Bool)
     → Is config old past → owed config past ≡ [] → is_some old.state.pending ≡ false
     → (said, mid.state.front) ≡ step_of config.accounts old.state.front
     → mid ≡ record old { state = stands_at mid.state.front old.state }
-    → TakesSaid said went mid new → Tries config (due_take config past) past went old new
+    → TakesSaid (context config past) said went mid new → Tries config (due_take config past) past went old new
 by_said config past old mid new fronts.Idle false is o free says rest now =
     let none = took_nothing config past old mid is free says rest in (none.0, now ∙ none.1)
 by_said config past old mid new fronts.Idle true is o free says rest now = absurd now
@@ -547,12 +555,21 @@ by_said config past old mid new (fronts.End packets reason) true is o free says 
     connected config past old mid new (fronts.End packets reason) is o free ends_it says rest now
 by_said config past old mid new (fronts.End packets reason) false is o free says rest now = absurd now
 
+-- what a command is judged by that comes now
+judging_is : (config : Config) (past : List Item) (old mid : Kept) → Is config old past
+    → mid ≡ record old { state = record old.state { front = mid.state.front } }
+    → context_in config.history_limit mid.state ≡ context config past
+judging_is config past old mid is rest =
+    ap (λ (k : Kept). context_in config.history_limit k.state) rest ∙ ap (context_in config.history_limit) is.mirrors
+
 pub took_said : (config : Config) (past : List Item) (old mid later new : Kept) (said : FrontStep) (went : Bool)
     → Is config old past → owed config past ≡ [] → is_some old.state.pending ≡ false
     → (said, mid.state.front) ≡ step_of config.accounts old.state.front
     → mid ≡ record old { state = record old.state { front = mid.state.front } }
-    → TakesSaid said went mid later → new ≡ recounted later → Tries config (due_take config past) past went old new
+    → TakesSaid (context_in config.history_limit mid.state) said went mid later → new ≡ recounted later
+    → Tries config (due_take config past) past went old new
 took_said config past old mid later new said went is o free says rest takes now =
+    let takes = subst (λ (judging : Context). TakesSaid judging said went mid later) (judging_is config past old mid is rest) takes in
     subst (Tries config (due_take config past) past went old) (sym now)
     (by_said config past old (recounted mid) (recounted later) said went is o free says (ap recounted rest)
-    (counts_later said went mid later takes))
+    (counts_later (context config past) said went mid later takes))

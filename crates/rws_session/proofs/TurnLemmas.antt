@@ -89,12 +89,11 @@ asks_already config past k is e =
 pub unasking_of : (config : Config) (past : List Item) (k : Kept) → Is config k past → k.state.asking ≡ false → asking past ≡ false
 unasking_of config past k is e = sym (ap (λ (s : State). s.asking) is.mirrors) ∙ e
 
--- No kind of step went but the last two.
-module _ (config : Config) (past : List Item) (old k1 k2 k3 k4 : Kept) (is : Is config old past) (unasked : old.state.asking ≡ false)
+-- No kind of step went but the last three.
+module _ (config : Config) (past : List Item) (old k1 k2 k3 : Kept) (is : Is config old past) (unasked : old.state.asking ≡ false)
     (open_still : k1.state.over ≡ false) (paid : Tries config (due_put (owed config past)) past false old k1)
     (asked : Is config k1 past → owed config past ≡ [] → asking past ≡ false → Tries config (due_route config past) past false k1 k2)
-    (sent : Is config k2 past → owed config past ≡ [] → Tries config (due_sends config (links past) past) past false k2 k3)
-    (flooded : Is config k3 past → owed config past ≡ [] → Tries config (due_flood config past) past false k3 k4) where
+    (sent : Is config k2 past → owed config past ≡ [] → Tries config (due_sends config (links past) past) past false k2 k3) where
   owes_none : owed config past ≡ []
   owes_none = by_owed (owed config past) paid.0
     where
@@ -120,41 +119,49 @@ module _ (config : Config) (past : List Item) (old k1 k2 k3 k4 : Kept) (is : Is 
   is_3 : Is config k3 past
   is_3 = subst (λ (k : Kept). Is config k past) (sym sent_none.1) is_2
 
-  flooded_none : Tries config (due_flood config past) past false k3 k4
-  flooded_none = flooded is_3 owes_none
-
-  is_4 : Is config k4 past
-  is_4 = subst (λ (k : Kept). Is config k past) (sym flooded_none.1) is_3
-
-  same_4 : k4 ≡ old
-  same_4 = flooded_none.1 ∙ sent_none.1 ∙ asked_none.1 ∙ paid.1
+  same_3 : k3 ≡ old
+  same_3 = sent_none.1 ∙ asked_none.1 ∙ paid.1
 
   over_none : is_over past ≡ false
   over_none = sym (ap (λ (s : State). s.over) is_1.mirrors) ∙ open_still
 
-  -- and nothing came on the links: what comes next is what comes of the client
-  module _ (k5 : Kept) (read : Is config k4 past → owed config past ≡ [] → Tries config (due_arrival (links past) past) past false k4 k5) where
-    read_none : Tries config (due_arrival (links past) past) past false k4 k5
-    read_none = read is_4 owes_none
+  pub flooded_in_part : (new : Kept) → Holds k3 new → Holds old new
+  flooded_in_part new holds = subst (λ (k : Kept). Holds k new) same_3 holds
 
-    is_5 : Is config k5 past
-    is_5 = subst (λ (k : Kept). Is config k past) (sym read_none.1) is_4
+  -- nor did a flood break it off
+  module _ (k4 : Kept) (flooded : Is config k3 past → owed config past ≡ [] → Tries config (due_flood config past) past false k3 k4) where
+    flooded_none : Tries config (due_flood config past) past false k3 k4
+    flooded_none = flooded is_3 owes_none
 
-    next_taken : next config past ≡ due_take config past
-    next_taken = rw (asks_none, owes_none, over_none, asked_none.0, sent_none.0, flooded_none.0, read_none.0) refl
+    is_4 : Is config k4 past
+    is_4 = subst (λ (k : Kept). Is config k past) (sym flooded_none.1) is_3
 
-    pub stepped : (new : Kept) {E : Type 0} (result : Result Bool E)
-        → (Is config k5 past → owed config past ≡ [] → IfOk result (λ went. Tries config (due_take config past) past went k5 new))
-        → IfOk result (λ went. Tries config (next config past) past went old new)
-    stepped new result took =
-        subst (λ (k : Kept). IfOk result (λ went. Tries config (next config past) past went k new)) (read_none.1 ∙ same_4)
-        (subst (λ (item : Option Item). IfOk result (λ went. Tries config item past went k5 new)) (sym next_taken) (took is_5 owes_none))
+    same_4 : k4 ≡ old
+    same_4 = flooded_none.1 ∙ same_3
 
-    pub stepped_in_part : (new : Kept) {T E : Type 0} (result : Result T E) → OnErr result (Holds k5 new) → OnErr result (Holds old new)
-    stepped_in_part new result holds = subst (λ (k : Kept). OnErr result (Holds k new)) (read_none.1 ∙ same_4) holds
+    pub read_in_part : (new : Kept) → Holds k4 new → Holds old new
+    read_in_part new holds = subst (λ (k : Kept). Holds k new) same_4 holds
 
-  pub read_in_part : (new : Kept) → Holds k4 new → Holds old new
-  read_in_part new holds = subst (λ (k : Kept). Holds k new) same_4 holds
+    -- and nothing came on the links: what comes next is what comes of the client
+    module _ (k5 : Kept) (read : Is config k4 past → owed config past ≡ [] → Tries config (due_arrival (links past) past) past false k4 k5) where
+      read_none : Tries config (due_arrival (links past) past) past false k4 k5
+      read_none = read is_4 owes_none
+
+      is_5 : Is config k5 past
+      is_5 = subst (λ (k : Kept). Is config k past) (sym read_none.1) is_4
+
+      next_taken : next config past ≡ due_take config past
+      next_taken = rw (asks_none, owes_none, over_none, asked_none.0, sent_none.0, flooded_none.0, read_none.0) refl
+
+      pub stepped : (new : Kept) {E : Type 0} (result : Result Bool E)
+          → (Is config k5 past → owed config past ≡ [] → IfOk result (λ went. Tries config (due_take config past) past went k5 new))
+          → IfOk result (λ went. Tries config (next config past) past went old new)
+      stepped new result took =
+          subst (λ (k : Kept). IfOk result (λ went. Tries config (next config past) past went k new)) (read_none.1 ∙ same_4)
+          (subst (λ (item : Option Item). IfOk result (λ went. Tries config item past went k5 new)) (sym next_taken) (took is_5 owes_none))
+
+      pub stepped_in_part : (new : Kept) {T E : Type 0} (result : Result T E) → OnErr result (Holds k5 new) → OnErr result (Holds old new)
+      stepped_in_part new result holds = subst (λ (k : Kept). OnErr result (Holds k new)) (read_none.1 ∙ same_4) holds
 
 -- What is heard
 

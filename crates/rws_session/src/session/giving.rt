@@ -16,7 +16,7 @@ use crate::session::Session;
 use rws_board::Action;
 use rws_links::{
     NumberedLink, Recording, answered_by, closing, is_link, is_loss, not_replayable, own_ok,
-    pending_bytes, sends_again,
+    sends_again,
 };
 use rws_record::ProxyError;
 use rws_reply::Outcome;
@@ -254,18 +254,13 @@ impl Session {
     fn loss(&self, link: u64) -> Option<CloseReason>
         ensures { after_loss_by (loss_in link self.now.state) (ending_in self.now.state) ≡ closing result }
     {
-        let state = self.transaction.state;
-        let bytes = self
-            .transaction
-            .bytes
-            .saturating_add(pending_bytes(&self.pending));
         closing(
             is_link(link, self.told_from),
             is_link(link, self.sent_on),
-            sends_again(&self.pending, state),
+            sends_again(&self.pending, self.transaction.state),
             is_link(link, self.kept_on),
             is_link(link, self.transaction.link),
-            not_replayable(bytes, state),
+            not_replayable(&self.pending, self.transaction),
         )
     }
 

@@ -105,10 +105,13 @@ impl Session {
             Request::Quit => self.owe(Out::Close {
                 reason: CloseReason::Quit,
             }),
-            Request::Ping => self.owe(Out::Own {
-                number,
-                status: self.transaction.state.status(),
-            }),
+            Request::Ping => {
+                let state = self.transaction.state;
+                self.owe(Out::Own {
+                    number,
+                    status: state.status(),
+                })
+            }
             Request::Query => self.take_for_server(Kind::Query, payload, number, config),
             Request::FieldList => self.take_for_server(Kind::FieldList, payload, number, config),
             Request::InitDb => self.take_for_server(Kind::Simple, payload, number, config),
