@@ -23,8 +23,7 @@ pub use numbered::{Asked, NumberedLink};
 pub use own::{own_ok, reserve_farewell};
 pub use table::LinkTable;
 pub use transaction::{
-    answered_by, changes, class_by_pending, not_replayable, sends_again,
-    sets_session,
+    answered_by, changes, class_by_pending, not_replayable, sends_again, sets_session,
 };
 
 #[cfg(test)]

@@ -95,10 +95,7 @@ fn speaks(pinned: Option<u64>, link: u64, class: Class, routing: Routing) -> boo
 }
 
 /// Why the session ends with its open transaction while this command is pending: no transaction is replayed.
-pub fn not_replayable(
-    pending: &Option<ClassedCommand>,
-    transaction: Transaction,
-) -> CloseReason
+pub fn not_replayable(pending: &Option<ClassedCommand>, transaction: Transaction) -> CloseReason
     ensures { result ≡ not_replayable (added transaction.bytes (length_by pending.now)) transaction.state }
 {
     let state = transaction.state;
