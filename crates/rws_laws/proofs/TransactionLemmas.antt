@@ -7,7 +7,7 @@ use Rattle.rws_class.specs.declared.class.Class.TheVariants.{Read, PrimaryRead, 
 use Rattle.rws_trx.specs.declared.state.Course.{Course}
 use Rattle.rws_trx.specs.declared.state.Course.TheVariants.{GoesOn, Begins, IsNone as IsOver}
 use Rattle.rws_trx.specs.declared.state.Open.{Open}
-use Rattle.rws_trx.specs.declared.state.Open.TheVariants.{Nothing as IsNone, ReadWrite, ReadOnly}
+use Rattle.rws_trx.specs.declared.state.Open.TheVariants.{Nothing as Unopened, ReadWrite, ReadOnly}
 use Rattle.rws_trx.specs.declared.state.TrxState.{TrxState}
 use Rattle.rws_trx.specs.declared.transaction.Answer.{Answer}
 use Rattle.rws_trx.specs.declared.transaction.Transaction.{Transaction}
@@ -86,7 +86,7 @@ not_again lasts e = let clash : false ≡ true = sym (never_again lasts) ∙ e i
 -- What a read-only transaction doesn't take
 
 pub only_reads : (opened : Open) → (is_read_only opened ≡ true) ↔ (opened ≡ ReadOnly)
-only_reads IsNone = (λ e. absurd cc, λ e. absurd cc)
+only_reads Unopened = (λ e. absurd cc, λ e. absurd cc)
 only_reads ReadWrite = (λ e. absurd cc, λ e. absurd cc)
 only_reads ReadOnly = (λ e. refl, λ e. refl)
 

@@ -25,7 +25,7 @@ use Rattle.rws_link.specs.declared.step.LinkStep.{LinkStep}
 use Rattle.rws_link.specs.declared.step.LinkStep.TheVariants as steps
 use Rattle.rws_link.specs.Stepping.{LinkState, LogsIn, Rests, Awaits, IsLost, step}
 use Rattle.rws_trx.specs.declared.state.Open.{Open}
-use Rattle.rws_trx.specs.declared.state.Open.TheVariants.{Nothing as IsNone, ReadWrite, ReadOnly}
+use Rattle.rws_trx.specs.declared.state.Open.TheVariants.{Nothing as Unopened, ReadWrite, ReadOnly}
 use Rattle.rws_trx.specs.declared.state.TrxState.{TrxState}
 use Rattle.rws_trx.specs.Transactions.{leaves_unknown}
 use Rattle.rws_trx.specs.OnLinks.{status_of}
@@ -107,7 +107,7 @@ loss_of config link past =
     (is_link link (goes_if (pending past) (goes_on config past)))
 
 abbrev pub is_read_only : Open → Bool
-is_read_only IsNone = false
+is_read_only Unopened = false
 is_read_only ReadWrite = false
 is_read_only ReadOnly = true
 
