@@ -151,19 +151,34 @@ fn a_command_is_due_on_its_link(rt: HostRuntime) -> Result<(), Fail> {
     Ok(())
 }
 
+/// A read-only transaction is open on the link.
+const ENDED: CloseReason = CloseReason::NotReplayable {
+    bytes: 7,
+    tainted: false,
+    read_only: true,
+    off: true,
+};
+
 #[test]
 fn the_first_reason_closes(rt: HostRuntime) -> Result<(), Fail> {
     let rows = [
-        ((true, true, false, true), Some(CloseReason::ResultCut)),
         (
-            (false, true, false, true),
+            (true, true, false, true, true),
+            Some(CloseReason::ResultCut),
+        ),
+        (
+            (false, true, false, true, true),
             Some(CloseReason::OutcomeUnknown),
         ),
-        ((false, true, true, true), Some(CloseReason::SessionState)),
-        ((false, true, true, false), None),
+        (
+            (false, true, true, true, true),
+            Some(CloseReason::SessionState),
+        ),
+        ((false, true, true, false, true), Some(ENDED)),
+        ((false, true, true, false, false), None),
     ];
-    for ((told, sent, again, kept), wanted) in rows {
-        assert_eq!(rt; closing(told, sent, again, kept), wanted);
+    for ((told, sent, again, kept, opened), wanted) in rows {
+        assert_eq!(rt; closing(told, sent, again, kept, opened, ENDED), wanted);
     }
     Ok(())
 }
