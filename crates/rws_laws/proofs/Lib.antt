@@ -42,3 +42,4 @@ pub mod UpLemmas
 pub mod AwaitedLemmas
 pub mod AnswersLemmas
 mod TransactionLemmas
+mod BarredLemmas

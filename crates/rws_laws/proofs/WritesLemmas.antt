@@ -291,7 +291,7 @@ module _ (config : Config) (past : List Item) (its : Settled config past) where
 
 -- What else is given out
 
-refused_waits : (past : List Item) (number : ℕ) (error : ProxyError) (command : Command)
+pub refused_waits : (past : List Item) (number : ℕ) (error : ProxyError) (command : Command)
     → pending (Puts (Tells number (Refuses error)) ∷ past) ≡ Some command → pending past ≡ Some command
 refused_waits past number UnknownCommand command e = e
 refused_waits past number NotSupported command e = e

@@ -6,7 +6,7 @@ use Rattle.rws_reply.specs.Replies.{Payload, IsReply}
 use Rattle.rws_reply.specs.ClientForm.{without_state}
 use Rattle.rws_route.specs.declared.destination.Target.{Target}
 use Rattle.rws_route.specs.declared.destination.Target.TheVariants.{Primary}
-use Rattle.rws_trx.specs.declared.state.Open.TheVariants.{ReadWrite}
+use Rattle.rws_trx.specs.declared.state.Open.TheVariants.{ReadWrite, ReadOnly}
 use Rattle.rws_config.specs.declared.config.Config.{Config}
 use Rattle.rws_record.specs.declared.command.Command.{Command}
 use Rattle.rws_record.specs.Item.{Item, Purpose, Recording}
@@ -14,12 +14,12 @@ use Rattle.rws_record.specs.Item.Item.{LinkBytes, Routed, Puts}
 use Rattle.rws_record.specs.Item.Purpose.{Asks, Plays}
 use Rattle.rws_record.specs.Item.Put.{Routes, Sends, Tells}
 use Rattle.rws_record.specs.Item.Tell.{Passes}
-use Rattle.rws_record.specs.Values.{accepted, asking, cursor, kept_on, links, pinned, server_of, told, transaction}
+use Rattle.rws_record.specs.Values.{accepted, asking, class_of_command, cursor, kept_on, links, pinned, server_of, told, transaction}
 use Rattle.rws_record.specs.Log.{log, total}
 use Rattle.rws_record.specs.Rules.{next}
 use Rattle.rws_record.specs.Record.{IsRecord}
 use Rattle.rws_record.specs.Run.{Entry, IsRun, next_entry, record_of}
-use Rattle.rws_laws.specs.Causes.{AreCaused, IsAt, IsHidden, found_last}
+use Rattle.rws_laws.specs.Causes.{AreCaused, IsAt, IsBarred, IsHidden, found_last}
 use Rattle.rws_laws.specs.Servers.{Lost}
 use Rattle.rws_laws.specs.Answers.{IsAnswered}
 use Rattle.rws_laws.specs.History.{set_on}
@@ -135,3 +135,9 @@ abbrev pub CountsItsLog : Type 0
 CountsItsLog =
     (config : Config) (past : List Item) → IsRecord config past
     → (transaction config past).bytes ≡ min (total (log config past)) (2 ^ 64 - 1)
+
+-- A command that a read-only transaction doesn't take goes to no server while one is open.
+abbrev pub NoChangeInReadOnly : Type 0
+NoChangeInReadOnly =
+    (config : Config) (past : List Item) (link : ℕ) (command : Command) → IsRecord config (Puts (Sends link (Asks command)) ∷ past)
+    → (transaction config past).state.opened ≡ ReadOnly → ¬ IsBarred config past (class_of_command command)

@@ -1,5 +1,5 @@
 //! Laws about a session's record. Each function does nothing; its contract is the law, which is proved with it.
-ghost use Rattle.rws_laws.specs.Laws.{Answered, AnsweredInRuns, Causes, CausesInRuns, CountsItsLog, GoesWhereFound, NothingBehindHidden, OneLinkEach, PinnedTakesNoRoute, PlaysInOrder, SetsBeforeItAsks, SetsInOrder, StaysOnItsLink, WholeReplies, WritesAtPrimary};
+ghost use Rattle.rws_laws.specs.Laws.{Answered, AnsweredInRuns, Causes, CausesInRuns, CountsItsLog, GoesWhereFound, NoChangeInReadOnly, NothingBehindHidden, OneLinkEach, PinnedTakesNoRoute, PlaysInOrder, SetsBeforeItAsks, SetsInOrder, StaysOnItsLink, WholeReplies, WritesAtPrimary};
 
 /// All that a session read, told, opened, sent, dropped and closed has its cause in what stands below it: in the bytes of the
 /// client and of its links.
@@ -47,6 +47,12 @@ pub fn stays_on_its_link()
 /// A transaction that may write is open at the server that the last route gave as primary.
 pub fn writes_at_primary()
     ensures { WritesAtPrimary }
+{}
+
+/// While a read-only transaction is open, a command that may change something is sent to no server, and neither is a setting for which
+/// the history has no room.
+pub fn no_change_in_read_only()
+    ensures { NoChangeInReadOnly }
 {}
 
 /// How many bytes count for a transaction is how many the commands of its log have.

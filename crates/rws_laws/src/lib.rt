@@ -10,5 +10,6 @@ mod law;
 
 pub use law::{
     causes, counts_its_log, goes_where_found, has_answered, links_are_set_alike,
-    nothing_behind_hidden, one_link_each, replies_are_whole, stays_on_its_link, writes_at_primary,
+    no_change_in_read_only, nothing_behind_hidden, one_link_each, replies_are_whole,
+    stays_on_its_link, writes_at_primary,
 };
