@@ -4,6 +4,8 @@ pub mod StatementLemmas
 pub mod LinkLemmas
 -- statements under their numbers
 pub mod SlotLemmas
+pub mod PlaceLemmas
+pub mod OpenLemmas
 pub mod SweepLemmas
 -- plain forms
 pub mod ReadLemmas

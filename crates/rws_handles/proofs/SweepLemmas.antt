@@ -1,5 +1,5 @@
 -- The statements that were closed later leave, by rising number.
-use Rattle.std.proofs.Common.{◌≡◌, ◌≢◌, ◌==◌, ◌⊎◌, ℕ, zero, suc, ◌+◌, ◌-◌, ◌<◌, ◌≤◌, Bool, true, false, cond, List, [], ◌∷◌, ◌++◌, length, get_or, Option, Some, None, drop, IsPermutation, refl, sym, ap, subst, ◌∙◌, inl, inr, arith}
+use Rattle.std.proofs.Common.{◌≡◌, ◌≢◌, ◌==◌, ◌⊎◌, ℕ, zero, suc, ◌+◌, ◌-◌, ◌<◌, ◌≤◌, Bool, true, false, cond, List, [], ◌∷◌, length, get_or, Option, Some, None, drop, IsPermutation, refl, sym, ap, subst, ◌∙◌, inl, inr, arith}
 use Rattle.std.specs.List.Sorted.{IsNonDecreasing}
 use Rattle.std.proofs.lemmas.Bool.{cases_eq, ne_eqb, eq-eqb}
 use Rattle.std.proofs.lemmas.List.{drop_all}
@@ -10,7 +10,7 @@ use Rattle.rws_handles.specs.LinkIds.{Ids}
 use Rattle.rws_handles.specs.Links.{left_all}
 use Rattle.rws_handles.specs.Slots.{Slots, closed_from, closed_numbers, is_closed, statement_at, without_all, without_statement}
 use Rattle.rws_handles.specs.StatementsView.{AreListed, HasNumber, once_if_closed, times}
-use Rattle.rws_handles.proofs.SlotLemmas.{at_number, at_others, closed_same, entry_at, none_at, not_there, some_number, taken_out, updates_out, value_at}
+use Rattle.rws_handles.proofs.SlotLemmas.{changes_out, closed_same, entry_at, none_at, not_there, taken_out, value_at}
 
 pub times-cons : (m number : ℕ) (numbers : List ℕ) → times m (number ∷ numbers) ≡ cond (number == m) 1 0 + times m numbers
 times-cons m number numbers = sum_by-cons (λ other. cond (other == m) 1 0) number numbers
@@ -129,16 +129,14 @@ out_at number slots = by (statement_at slots number) refl
   where
     by : (found : Option Prepared) → statement_at slots number ≡ found → statement_at (without_statement number slots) number ≡ None
     by None none = ap (λ (s : Slots). statement_at s number) (not_there number slots none) ∙ none
-    by (Some was) found = ap (λ (s : Slots). statement_at s number) (taken_out number slots was found)
-        ∙ at_number _ _ (slots.freed ++ number ∷ []) number None (some_number number slots was found) (updates_out number slots was found)
+    by (Some was) found = ap (λ (s : Slots). statement_at s number) (taken_out number slots was found) ∙ (changes_out number slots was found).here
 
 others_stay : (number : ℕ) (slots : Slots) (m : ℕ) → m ≢ number → statement_at (without_statement number slots) m ≡ statement_at slots m
 others_stay number slots m apart = by (statement_at slots number) refl
   where
     by : (found : Option Prepared) → statement_at slots number ≡ found → statement_at (without_statement number slots) m ≡ statement_at slots m
     by None none = ap (λ (s : Slots). statement_at s m) (not_there number slots none)
-    by (Some was) found = ap (λ (s : Slots). statement_at s m) (taken_out number slots was found)
-        ∙ at_others _ _ slots.freed (slots.freed ++ number ∷ []) number None (some_number number slots was found) (updates_out number slots was found) m apart
+    by (Some was) found = ap (λ (s : Slots). statement_at s m) (taken_out number slots was found) ∙ (changes_out number slots was found).others m apart
 
 -- each statement has left, or stays and wasn't to leave
 out_or_stays : (numbers : List ℕ) (slots : Slots) (m : ℕ) → (statement_at (without_all numbers slots) m ≡ None) ⊎ ((statement_at (without_all numbers slots) m ≡ statement_at slots m) × (times m numbers ≡ 0))

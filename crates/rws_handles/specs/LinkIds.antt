@@ -35,6 +35,10 @@ with_id number id on = record on { ids = insert_entry nat_cmp on.ids number id; 
 abbrev pub with_left : ℕ → Ids → Ids
 with_left number on = record on { ids = remove_entry (is_at (nat_cmp number)) on.ids; stale = with_stale on.stale (id_of number on) }
 
+-- an id of a statement that has left
+abbrev pub with_stale_id : ℕ → Ids → Ids
+with_stale_id id on = record on { stale = on.stale ++ id ∷ [] }
+
 abbrev pub min_or : ℕ → List ℕ → ℕ
 min_or least [] = least
 min_or least (id ∷ ids) = min_or (min least id) ids

@@ -1,7 +1,7 @@
 -- The ids that the servers gave to statements, one entry a link.
 use Rattle.std.specs.Prelude.{ℕ, not, ◌==◌, List, [], ◌∷◌, ◌++◌, map, filter, slice_get, slice_set, unwrap_or, Option, Some, None}
 use Rattle.std.specs.List.{position_from}
-use Rattle.rws_handles.specs.LinkIds.{Ids, no_ids, id_of, with_id, with_left, without_least}
+use Rattle.rws_handles.specs.LinkIds.{Ids, no_ids, id_of, with_id, with_left, with_stale_id, without_least}
 
 abbrev pub place_of : ℕ → List Ids → Option ℕ
 place_of link links = position_from (λ on. on.link == link) 0 links
@@ -21,6 +21,10 @@ put_at links (Some at) on = slice_set links at on
 -- the server of the link gave this id to the statement
 abbrev pub with_id_on : ℕ → ℕ → ℕ → List Ids → List Ids
 with_id_on link number id links = put_at links (place_of link links) (with_id number id (ids_on link links))
+
+-- the server of the link gave this id to a statement that has left
+abbrev pub with_stale_on : (link id : ℕ) → List Ids → List Ids
+with_stale_on link id links = put_at links (place_of link links) (with_stale_id id (ids_on link links))
 
 abbrev pub forget_at : ℕ → List Ids → Option ℕ → List Ids
 forget_at link links None = links

@@ -1,9 +1,9 @@
 -- The statements of a session and the numbers that the client has for them.
-use Rattle.std.specs.Prelude.{◌≡◌, ℕ, ◌+◌, ◌-◌, Bool, false, if◌then◌else◌, ◌==◌, List, [], ◌∷◌, ◌++◌, length, take, slice_get, slice_index_or, slice_set, count_by, is_some, unwrap_or, Option, Some, None}
-use Rattle.rws_handles.specs.Prepared.{Prepared, prepared}
+use Rattle.std.specs.Prelude.{ℕ, ◌+◌, ◌-◌, Bool, false, not, ◌&&◌, nat_lt, if◌then◌else◌, ◌==◌, List, [], ◌∷◌, ◌++◌, length, take, slice_get, slice_index_or, slice_set, count_by, is_some, unwrap_or, Option, Some, None}
+use Rattle.rws_handles.specs.Prepared.{Prepared}
 
 pub record Slots : Type 0 where
-  -- the statement of number n stands at the place n - 1
+  -- one place for each number that was ever given out: at the place n - 1 the statement of number n, None where it was given back
   pub entries : List (Option Prepared)
   -- the numbers that were given back and not given out again, the last one last
   pub freed : List ℕ
@@ -21,15 +21,21 @@ count slots = count_by is_some slots.entries
 
 -- the number of the next statement: the one given back last, else the first that was never given out
 abbrev pub next_number : Slots → ℕ
-next_number slots = unwrap_or (slice_get slots.freed (length slots.freed - 1)) (count slots + 1)
+next_number slots = unwrap_or (slice_get slots.freed (length slots.freed - 1)) (length slots.entries + 1)
 
--- a statement came under the next number, which no other has; the others stand as before
-pub record Opens (old new : Slots) (text : List ℕ) (columns parameters : ℕ) : Type 0 where
-  pub was_free : statement_at old (next_number old) ≡ None
-  pub statement : statement_at new (next_number old) ≡ Some (prepared (next_number old) text columns parameters)
-  pub others : (number : ℕ) → (number == next_number old) ≡ false → statement_at new number ≡ statement_at old number
-  pub one_more : count new ≡ count old + 1
-  pub freed : new.freed ≡ take (length old.freed - 1) old.freed
+-- no number is left to give out: 65,536 were given out, and none was given back
+abbrev pub is_crowded : Slots → Bool
+is_crowded slots = (length slots.freed == 0) && not (nat_lt (length slots.entries) 65536)
+
+-- by the numbers that were given back
+abbrev pub with_opened_by : List ℕ → Prepared → Slots → Slots
+with_opened_by [] statement slots = record { entries = slots.entries ++ Some statement ∷ []; freed = [] }
+with_opened_by (first ∷ rest) statement slots =
+    record { entries = slice_set slots.entries (next_number slots - 1) (Some statement); freed = take (length slots.freed - 1) slots.freed }
+
+-- a statement came under the next number
+abbrev pub with_opened : Prepared → Slots → Slots
+with_opened statement slots = with_opened_by slots.freed statement slots
 
 -- another statement, or none, in the place of the one with this number
 abbrev pub with_statement : Slots → ℕ → Option Prepared → Slots

@@ -3,11 +3,11 @@ use Rattle.std.specs.Prelude.{ℕ, Bool, true, false, if◌then◌else◌, ◌==
 use Rattle.std.specs.Option.{option_and_then}
 use Rattle.rws_handles.specs.declared.fault.ExecuteFault.{ExecuteFault}
 use Rattle.rws_handles.specs.declared.fault.ExecuteFault.TheVariants.{UnknownHandle}
-use Rattle.rws_handles.specs.Prepared.{Prepared, closed_later, long_bytes}
+use Rattle.rws_handles.specs.Prepared.{Prepared, closed_later, long_bytes, prepared}
 use Rattle.rws_handles.specs.PlainForm.{Plain, plain_form, handle_in}
 use Rattle.rws_handles.specs.LinkIds.{Ids}
 use Rattle.rws_handles.specs.Links.{left_all, left_on}
-use Rattle.rws_handles.specs.Slots.{Slots, no_slots, statement_at, updated, without_statement, closed_numbers, without_all}
+use Rattle.rws_handles.specs.Slots.{Slots, no_slots, next_number, statement_at, updated, with_opened, without_statement, closed_numbers, without_all}
 
 pub record Table : Type 0 where
   pub statements : Slots
@@ -18,6 +18,15 @@ pub record Table : Type 0 where
 
 abbrev pub empty : Table
 empty = record { statements = no_slots; last = None; links = [] }
+
+-- ---- how statements come
+
+-- a statement came under the next number, and is the last that was prepared
+abbrev pub opened : (text : List ℕ) → (columns parameters : ℕ) → Table → Table
+opened text columns parameters table = record table {
+  statements = with_opened (prepared (next_number table.statements) text columns parameters) table.statements;
+  last = Some (next_number table.statements);
+}
 
 -- ---- what a handle names
 

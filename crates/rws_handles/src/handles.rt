@@ -1,6 +1,6 @@
 //! The table of a session's prepared statements. A client names a statement by a handle: its number, or 0xFFFFFFFF for
 //! the last that was prepared. Servers name it by ids, one a link.
-ghost use Rattle.std.specs.Prelude.{◌≡◌, ◌<◌, ◌^◌, ℕ, Option, Some, None, IfOk, OnOk, OnErr, unwrap_or};
+ghost use Rattle.std.specs.Prelude.{◌≡◌, ◌<◌, ◌^◌, ◌==◌, is_some, ℕ, false, Option, Some, None, IfOk, OnOk, OnErr, unwrap_or};
 ghost use Rattle.std.specs.Option.{option_copied};
 ghost use Rattle.rws_wire.specs.Reading.{Reads};
 ghost use Rattle.rws_handles.specs.Table.{named};
@@ -42,11 +42,11 @@ impl Handles {
     ghost use Rattle.rws_handles.specs.Fault.{Finds, Knows, Puts, PutsPlain};
     ghost use Rattle.rws_handles.specs.Laws.{IsPreparedAt};
     ghost use Rattle.rws_handles.specs.LinkIds.{least};
-    ghost use Rattle.rws_handles.specs.Links.{id_on, ids_on, with_id_on, without_least_on, without_link};
+    ghost use Rattle.rws_handles.specs.Links.{id_on, ids_on, with_id_on, with_stale_on, without_least_on, without_link};
     ghost use Rattle.rws_handles.specs.PlainForm.{Plain, handle_in, number_in, spelled, text_of};
     ghost use Rattle.rws_handles.specs.Prepared.{executed, with_long_data, without_long_data};
-    ghost use Rattle.rws_handles.specs.Slots.{Opens, count, next_number, statement_at};
-    ghost use Rattle.rws_handles.specs.Table.{changed, closed, empty, execute_of, held_by, number_of_execute, open_at, swept};
+    ghost use Rattle.rws_handles.specs.Slots.{count, is_crowded, next_number, statement_at};
+    ghost use Rattle.rws_handles.specs.Table.{changed, closed, empty, execute_of, held_by, number_of_execute, open_at, opened, swept};
 
     /// No statements. It takes no memory; the allocator is for later calls.
     pub fn new(alloc: Global) -> Handles
@@ -67,19 +67,44 @@ impl Handles {
         self.statements.len()
     }
 
-    /// A prepare was answered with these numbers of columns and parameters, while the table has fewer than `MAX_HANDLES`
-    /// statements. The number is the client's handle.
+    /// Whether no number is left for another statement: `MAX_HANDLES` stand in the table.
+    pub fn is_full(&self) -> bool
+        ensures crowded { result ≡ is_crowded self.now.statements }
+        ensures count { result ≡ (count self.now.statements == 65536) }
+    {
+        self.statements.is_full()
+    }
+
+    /// A prepare was answered with these numbers of columns and parameters, while the table isn't full. The number is the
+    /// client's handle; no other statement has it.
     pub fn opened(&mut self, text: Text, columns: u16, parameters: u16) -> Result<u32, AllocError>
-        requires { count self.old.statements < 65536 }
+        requires { is_crowded self.old.statements ≡ false }
         ensures number { IfOk result (λ number. number ≡ next_number self.old.statements) }
-        ensures opens { OnOk result (Opens self.old.statements self.new.statements text columns parameters) }
-        ensures last { IfOk result (λ number. self.new.last ≡ Some number) }
-        ensures links { OnOk result (self.new.links ≡ self.old.links) }
+        ensures free { IfOk result (λ number. statement_at self.old.statements number ≡ None) }
+        ensures ok { OnOk result (self.new ≡ opened text columns parameters self.old) }
         ensures err { OnErr result (self.new ≡ self.old) }
     {
         let number = self.statements.open(text, columns, parameters)?;
         self.last = Some(number);
         Ok(number)
+    }
+
+    /// The same where the server of a link gave this id to the statement. After an `Err` nothing is known of the table.
+    pub fn opened_on(
+        &mut self,
+        link: u64,
+        server_id: u32,
+        text: Text,
+        columns: u16,
+        parameters: u16,
+    ) -> Result<(), AllocError>
+        requires { is_crowded self.old.statements ≡ false }
+        ensures { OnOk result (self.new ≡ record (opened text columns parameters self.old) {
+          links = with_id_on link (next_number self.old.statements) server_id self.old.links;
+        }) }
+    {
+        let number = self.opened(text, columns, parameters)?;
+        self.links.add(link, number, server_id)
     }
 
     /// A prepare was answered by an error: 0xFFFFFFFF names no statement.
@@ -101,6 +126,14 @@ impl Handles {
         }
         self.links.add(link, client_id, server_id)?;
         Ok(())
+    }
+
+    /// The same of a statement that is known to stand in the table.
+    pub fn name(&mut self, link: u64, number: u32, server_id: u32) -> Result<(), AllocError>
+        ensures ok { OnOk result (self.new ≡ record self.old { links = with_id_on link number server_id self.old.links }) }
+        ensures err { OnErr result (self.new ≡ self.old) }
+    {
+        self.links.add(link, number, server_id)
     }
 
     /// Long data for a parameter, counted from 0, of an open statement. Whether it has the parameter isn't looked at.
@@ -233,11 +266,47 @@ impl Handles {
         self.links.take_least(link)
     }
 
+    /// An id that the link's server gave to a statement that has left meanwhile: it is to be closed.
+    pub fn closed_on(&mut self, link: u64, server_id: u32) -> Result<(), AllocError>
+        ensures ok { OnOk result (self.new ≡ record self.old { links = with_stale_on link server_id self.old.links }) }
+        ensures err { OnErr result (self.new ≡ self.old) }
+    {
+        self.links.add_stale(link, server_id)
+    }
+
     /// Forgets all ids on a link.
     pub fn drop_link(&mut self, link: u64)
         ensures { self.new ≡ record self.old { links = without_link link self.old.links } }
     {
         self.links.drop_link(link);
+    }
+
+    /// The handle names a statement, which wasn't closed.
+    pub fn is_open(&self, handle: u32) -> bool
+        ensures { result ≡ is_some (open_at self.now handle) }
+    {
+        self.open_statement(handle).is_some()
+    }
+
+    /// A statement of this number stands in the table, open or closed later.
+    pub fn stands(&self, number: u32) -> bool
+        ensures { result ≡ is_some (statement_at self.now.statements number) }
+    {
+        self.statements.get(number).is_some()
+    }
+
+    /// The number that the next statement is to have.
+    pub fn next_number(&self) -> u32
+        ensures { result ≡ next_number self.now.statements }
+    {
+        self.statements.next_number()
+    }
+
+    /// The id that the statement with this number has on a link.
+    pub fn id(&self, link: u64, number: u32) -> Option<u32>
+        ensures { result ≡ id_on self.now.links link number }
+    {
+        self.links.id(link, number)
     }
 
     /// The statement that a handle names, unless it was closed.

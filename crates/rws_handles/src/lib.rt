@@ -12,6 +12,7 @@ mod links;
 mod statement;
 mod statements;
 
+pub use command::{handle_in, number_in, put_renumbered};
 pub use fault::{ExecuteFault, HandleFault, OnWireFault, UnknownHandle};
 pub use handles::{Handles, MAX_HANDLES};
 pub use law::plain_forms_stay;

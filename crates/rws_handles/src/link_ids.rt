@@ -29,7 +29,7 @@ impl Model for LinkIds {
 }
 
 impl LinkIds {
-    ghost use Rattle.rws_handles.specs.LinkIds.{id_of, least, no_ids, with_id, with_left, without_least};
+    ghost use Rattle.rws_handles.specs.LinkIds.{id_of, least, no_ids, with_id, with_left, with_stale_id, without_least};
 
     /// No ids on this link. It takes no memory.
     pub fn new(alloc: Global, link: u64) -> LinkIds
@@ -69,6 +69,16 @@ impl LinkIds {
             }
             Err(_) => Err(AllocError),
         }
+    }
+
+    /// The id that the server gave to a statement that has left the table.
+    pub fn add_stale(&mut self, id: u32) -> Result<(), AllocError>
+        ensures ok { OnOk result (self.new ≡ with_stale_id id self.old) }
+        ensures err { OnErr result (self.new ≡ self.old) }
+    {
+        self.stale.reserve(self.ids.len() + 1)?;
+        self.stale.push_reserved(id);
+        Ok(())
     }
 
     /// The statement with this number has left the table.

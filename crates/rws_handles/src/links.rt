@@ -24,7 +24,7 @@ impl Model for LinkList {
 impl LinkList {
     ghost use Rattle.std.specs.Prelude.{[]};
     ghost use Rattle.rws_handles.specs.LinkIds.{least};
-    ghost use Rattle.rws_handles.specs.Links.{id_on, ids_on, left_on, place_of, with_id_on, without_least_on, without_link};
+    ghost use Rattle.rws_handles.specs.Links.{id_on, ids_on, left_on, place_of, with_id_on, with_stale_on, without_least_on, without_link};
 
     /// No ids. It takes no memory.
     pub fn new(alloc: Global) -> LinkList
@@ -65,6 +65,25 @@ impl LinkList {
             None => {
                 let mut on = LinkIds::new(self.alloc, link);
                 on.add(number, id)?;
+                self.links.push(on)?;
+                Ok(())
+            }
+        }
+    }
+
+    /// The id that a link's server gave to a statement that has left the table.
+    pub fn add_stale(&mut self, link: u64, id: u32) -> Result<(), AllocError>
+        ensures ok { OnOk result (self.new ≡ with_stale_on link id self.old) }
+        ensures err { OnErr result (self.new ≡ self.old) }
+    {
+        match self.place(link) {
+            Some(at) => {
+                let on = &mut self.links[at];
+                on.add_stale(id)
+            }
+            None => {
+                let mut on = LinkIds::new(self.alloc, link);
+                on.add_stale(id)?;
                 self.links.push(on)?;
                 Ok(())
             }

@@ -1,16 +1,16 @@
 //! The prepared statements of a session under the numbers that the client has for them, a key of the slab plus 1. Each
 //! statement knows its number; those that were closed later are listed, each once; and there is room to give each number
 //! back and to list each statement as closed, so that a close takes no memory.
-ghost use Rattle.std.specs.Prelude.{◌≡◌, false, ◌+◌, ◌-◌, ◌<◌, ◌≤◌, IfOk, OnOk, OnErr, length, slice_get, unwrap_or, vec_len};
+ghost use Rattle.std.specs.Prelude.{◌≡◌, ◌==◌, false, ◌+◌, ◌-◌, ◌<◌, ◌≤◌, None, IfOk, OnOk, OnErr, length, slice_get, unwrap_or, vec_len};
 ghost use Rattle.std.specs.Option.{option_copied};
 ghost use Rattle.std.specs.Vec.{vec_capacity};
 ghost use Rattle.slab.specs.Slab.{slab_len};
 ghost use Rattle.rws_handles.specs.Slots.{without_statement};
-ghost use Rattle.rws_handles.specs.StatementsView.{slots_of};
+ghost use Rattle.rws_handles.specs.StatementsView.{HasNoneBehind, slots_of};
 
-use crate::ExecuteFault;
 use crate::links::LinkList;
 use crate::statement::Statement;
+use crate::{ExecuteFault, MAX_HANDLES};
 use rws_wire::{PayloadList, Text};
 use slab::Slab;
 use std::alloc::{AllocError, Global};
@@ -38,11 +38,11 @@ impl Model for Statements {
 }
 
 impl Statements {
-    ghost use Rattle.rws_handles.specs.Slots.{Opens, closed_numbers, count, is_closed, next_number, no_slots, statement_at, updated, without_all};
+    ghost use Rattle.rws_handles.specs.Slots.{closed_numbers, count, is_closed, is_crowded, next_number, no_slots, statement_at, updated, with_opened, without_all};
     ghost use Rattle.rws_handles.specs.Links.{left_all};
     ghost use Rattle.rws_handles.specs.Answers.{Takes};
     ghost use Rattle.rws_handles.specs.Laws.{IsPreparedAt};
-    ghost use Rattle.rws_handles.specs.Prepared.{closed_later, executed, with_long_data, without_long_data};
+    ghost use Rattle.rws_handles.specs.Prepared.{closed_later, executed, prepared, with_long_data, without_long_data};
     ghost use Rattle.rws_handles.specs.Table.{plain_if_open};
 
     /// No statements. It takes no memory.
@@ -64,6 +64,21 @@ impl Statements {
         self.entries.len()
     }
 
+    /// Whether no number is left for another statement.
+    pub fn is_full(&self) -> bool
+        ensures crowded { result ≡ is_crowded self.now }
+        ensures count { result ≡ (count self.now == 65536) }
+    {
+        self.entries.len() == MAX_HANDLES
+    }
+
+    /// The number of the next statement; where the table is full there is none, and this is no statement's.
+    pub fn next_number(&self) -> u32
+        ensures { result ≡ next_number self.now }
+    {
+        next_number(&self.freed, self.entries.len())
+    }
+
     /// The statement of this number.
     pub fn get(&self, number: u32) -> Option<&Statement>
         ensures { option_copied result ≡ statement_at self.now number }
@@ -76,18 +91,16 @@ impl Statements {
 
     /// A new statement under the next number. There is memory for it only where the slab's next key is that number's.
     pub fn open(&mut self, text: Text, columns: u16, parameters: u16) -> Result<u32, AllocError>
-        requires { count self.old < 65536 }
+        requires { is_crowded self.old ≡ false }
         ensures number { IfOk result (λ number. number ≡ next_number self.old) }
-        ensures opens { OnOk result (Opens self.old self.new text columns parameters) }
+        ensures free { IfOk result (λ number. statement_at self.old number ≡ None) }
+        ensures ok { OnOk result (self.new ≡ with_opened (prepared (next_number self.old) text columns parameters) self.old) }
         ensures err { OnErr result (self.new ≡ self.old) }
     {
         let count = self.entries.len();
         self.freed.reserve(count + 1)?;
         self.closing.reserve(count + 1)?;
         let number = next_number(&self.freed, count);
-        if number == 0 {
-            return Err(AllocError);
-        }
         if self.entries.vacant_key() != number as usize - 1 {
             return Err(AllocError);
         }
@@ -187,7 +200,9 @@ impl Statements {
 
 /// Takes the statement of this number out, if there is one, and gives the number back.
 fn remove_entry(entries: &mut Slab<Statement>, freed: &mut Vec<u32>, number: u32)
-    requires { slab_len entries.old + vec_len freed.old ≤ vec_capacity freed.old }
+    requires room { slab_len entries.old + vec_len freed.old ≤ vec_capacity freed.old }
+    requires behind { HasNoneBehind entries.old freed.old.items }
+    ensures behind { HasNoneBehind entries.new freed.new.items }
     ensures slots { slots_of entries.new freed.new.items ≡ without_statement number (slots_of entries.old freed.old.items) }
     ensures room { slab_len entries.new + vec_len freed.new ≤ vec_capacity freed.new }
     ensures fewer { slab_len entries.new ≤ slab_len entries.old }
@@ -202,7 +217,7 @@ fn remove_entry(entries: &mut Slab<Statement>, freed: &mut Vec<u32>, number: u32
 
 /// The number of the next statement of so many.
 fn next_number(freed: &[u32], count: usize) -> u32
-    requires { count < 65536 }
+    requires { count ≤ 65536 }
     ensures { result ≡ unwrap_or (slice_get freed.now (length freed.now - 1)) (count + 1) }
 {
     match freed.last() {

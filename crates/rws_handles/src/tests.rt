@@ -76,7 +76,7 @@ fn malformed_executes_are_refused(rt: HostRuntime) -> Result<(), Fail> {
 
 /// The number of a new statement, if there is room for one.
 fn next(handles: &mut Handles, alloc: Global) -> Result<Option<u32>, AllocError> {
-    if handles.count() >= MAX_HANDLES {
+    if handles.is_full() {
         return Ok(None);
     }
     let text = Text::from_slice(alloc, b"select 1")?;
@@ -97,5 +97,27 @@ fn numbers_are_given_out_again(rt: HostRuntime) -> Result<(), Fail> {
         assert_eq!(rt; next(&mut handles, rt.alloc())?, Some(number));
     }
     assert_eq!(rt; handles.count(), 5);
+    Ok(())
+}
+
+#[test]
+fn a_number_that_was_given_back_comes_before_a_new_one(rt: HostRuntime) -> Result<(), Fail> {
+    let mut handles = Handles::new(rt.alloc());
+    assert_eq!(rt; next(&mut handles, rt.alloc())?, Some(1));
+    assert_eq!(rt; next(&mut handles, rt.alloc())?, Some(2));
+    assert!(rt; handles.close(1, false).is_ok());
+    assert_eq!(rt; next(&mut handles, rt.alloc())?, Some(1));
+    Ok(())
+}
+
+#[test]
+fn an_id_that_no_statement_has_is_to_be_closed(rt: HostRuntime) -> Result<(), Fail> {
+    let mut handles = Handles::new(rt.alloc());
+    handles.closed_on(2, 9)?;
+    handles.closed_on(2, 7)?;
+    assert_eq!(rt; handles.take_closed(3), None);
+    assert_eq!(rt; handles.take_closed(2), Some(7));
+    assert_eq!(rt; handles.take_closed(2), Some(9));
+    assert_eq!(rt; handles.take_closed(2), None);
     Ok(())
 }

@@ -13,7 +13,7 @@ use Rattle.rws_record.specs.Record.{IsBeginning, IsInput, IsRecord}
 use Rattle.rws_record.specs.Record.IsRecord.{begins, steps, answers, hears, starves}
 use Rattle.rws_record.proofs.StepLemmas.{Due, Step, of_next}
 use Rattle.rws_record.proofs.StepLemmas.Due.{comes, connects, takes}
-use Rattle.rws_record.proofs.StepLemmas.Step.{pays, asks, prepares, plays, sends, floods, reads}
+use Rattle.rws_record.proofs.StepLemmas.Step.{pays, asks, prepares, forgets, plays, sends, floods, reads}
 use Rattle.rws_laws.specs.Laws.{GoesWhereFound}
 use Rattle.rws_laws.proofs.CausesLemmas.{causes}
 use Rattle.rws_laws.proofs.GoingLemmas.{Aimed, HasAssigned, goes_with, legal_going}
@@ -75,8 +75,9 @@ module _ (config : Config) (past : List Item) (link : ℕ) (purpose : Purpose) w
       let clash : false ≡ true = sym (owed_unsent legal) ∙ sending in absurd cc
   by_step legal (asks o n p g w) is = absurd cc
   by_step legal (prepares o n has f) is = record { legal = legal; owes = o; goes = n }
-  by_step legal (plays o n has f s) is = record { legal = legal; owes = o; goes = n }
-  by_step legal (sends o n p s g f d) is = record { legal = legal; owes = o; goes = n }
+  by_step legal (plays o n has f t s) is = record { legal = legal; owes = o; goes = n }
+  by_step legal (sends o n p s g f t d i) is = record { legal = legal; owes = o; goes = n }
+  by_step legal (forgets o n has f t) is = absurd cc
   by_step legal (floods o n p above) is = absurd cc
   by_step legal (reads o n due) is = by_due due is
 
@@ -101,13 +102,13 @@ module _ (config : Config) (past : List Item) (link : ℕ) (purpose : Purpose) w
   sending legal = by_record legal refl
 
 pub goes_where_found : GoesWhereFound
-goes_where_found config past link command some legal free =
-    let now = sending config past link (Asks command) legal in
+goes_where_found config past link command id some legal free =
+    let now = sending config past link (Asks command id) legal in
     by_going (goes_with now.owes now.goes (legal_going now.legal)).1
   where
     goes : or_link None (routing config past).assigned ≡ Some link
     goes =
-        let cause = causes config (Puts (Sends link (Asks command)) ∷ past) legal in
+        let cause = causes config (Puts (Sends link (Asks command id)) ∷ past) legal in
         sym (ap (λ (on : Option ℕ). or_link on (routing config past).assigned) free) ∙ cause.0.2
 
     by_going : (HasAssigned config past ⊎ (config.accounts ≡ [])) → Aimed link past

@@ -1,15 +1,15 @@
 -- A session that rests has answered.
-use Rattle.std.proofs.Common.{◌≡◌, ℕ, Bool, false, true, List, [], ◌∷◌, length, refl, sym, ap, subst, ◌∙◌, inl, inr, Option, Some, None}
-use Rattle.std.specs.Prelude.{◌⊎◌, ◌==◌, Contains, slice_get, if◌then◌else◌}
+use Rattle.std.proofs.Common.{◌≡◌, ℕ, Bool, false, true, List, [], ◌∷◌, refl, sym, ap, subst, ◌∙◌, inl, inr, Option, Some, None}
+use Rattle.std.specs.Prelude.{◌⊎◌, ◌==◌, Contains, if◌then◌else◌}
 use Rattle.std.proofs.lemmas.Bool.{eq-eqb, eqb-true}
 use Rattle.rws_link.specs.Stepping.{Exchange, LinkState, Rests}
 use Rattle.rws_config.specs.declared.config.Config.{Config}
-use Rattle.rws_record.specs.declared.command.Command.{Command}
-use Rattle.rws_record.specs.Item.{Item}
+use Rattle.rws_commands.specs.declared.command.Command.{Command}
+use Rattle.rws_record.specs.Item.{Item, Purpose}
 use Rattle.rws_record.specs.Item.Item.{Puts}
 use Rattle.rws_record.specs.Item.Put.{Routes, Sends}
 use Rattle.rws_record.specs.Item.Purpose.{Prepares, Asks, Plays}
-use Rattle.rws_record.specs.Values.{accepted, asked_on, asking, cursor, fronted, or_link, goes_on, is_up, links, contains, exchange, linked, pending, routing, sent_on, told, is_over, pinned}
+use Rattle.rws_record.specs.Values.{asking_for, statements, asked_on, asking, cursor, fronted, or_link, goes_on, is_up, links, contains, exchange, linked, pending, routing, sent_on, told, is_over, pinned}
 use Rattle.rws_record.specs.Rules.{ask_by, due_on, due_sends, is_link, next, is_free, owed, play_by, prepare_by, ◌or◌}
 use Rattle.rws_record.specs.Record.{IsRecord}
 use Rattle.rws_record.specs.Run.{record_of}
@@ -25,10 +25,12 @@ use Rattle.rws_laws.specs.Answers.Waits.{for_primary, for_link, for_entry, for_r
 use Rattle.rws_laws.specs.Laws.{Answered, AnsweredInRuns}
 use Rattle.rws_laws.proofs.FrontLemmas.{front_says, idles_so, steady}
 use Rattle.rws_laws.proofs.EnteringLemmas.{is_entering, legal_entering}
-use Rattle.rws_laws.proofs.Sound.{Sound, WaitsOn}
+use Rattle.rws_laws.proofs.Sound.{Sound, WaitsOn, handle}
 use Rattle.rws_laws.proofs.Sound.WaitsOn.{prepares, repeats, replies}
 use Rattle.rws_laws.proofs.SoundLemmas.{legal_sound}
-use Rattle.rws_laws.proofs.HistoryLemmas.{played_all}
+use Rattle.rws_commands.specs.declared.history.HistoryEntry.{HistoryEntry}
+use Rattle.rws_commands.specs.Commands.{id_for}
+use Rattle.rws_commands.specs.Statements.{stale_on, unplayed}
 use Rattle.rws_laws.proofs.GoingLemmas.{HasAssigned, HasPinned, goes_with, legal_going}
 use Rattle.rws_laws.proofs.ListLemmas.{has_it}
 use Rattle.rws_laws.proofs.RoutedLemmas.{nowhere_last}
@@ -68,14 +70,14 @@ module _ (config : Config) (past : List Item) (legal : IsRecord config past) (qu
   -- neither the preamble, nor an entry of the history, nor the command is due on a link of the session
   nothing_on : (link : ℕ) → contains link (links past) ≡ true
       → (prepare_by (is_free false link past) link ≡ None)
-      × (play_by (is_free true link past) link (slice_get (accepted past) (cursor link past)) ≡ None)
-      × (ask_by (is_free true link past) link (is_link link (goes_on config past)) (pending past) (sent_on past) ≡ None)
+      × (play_by (is_free true link past) link (stale_on link (statements config past)) (unplayed (cursor link past) (statements config past)) ≡ None)
+      × (ask_by (is_free true link past) link (stale_on link (statements config past)) (is_link link (goes_on config past)) (asking_for (pending past) link (statements config past).table.links) (sent_on past) ≡ None)
   nothing_on link here =
-      let all = neither (prepare_by (is_free false link past) link) (play_by (is_free true link past) link (slice_get (accepted past) (cursor link past))
-      or ask_by (is_free true link past) link (is_link link (goes_on config past)) (pending past) (sent_on past))
+      let all = neither (prepare_by (is_free false link past) link) (play_by (is_free true link past) link (stale_on link (statements config past)) (unplayed (cursor link past) (statements config past))
+      or ask_by (is_free true link past) link (stale_on link (statements config past)) (is_link link (goes_on config past)) (asking_for (pending past) link (statements config past).table.links) (sent_on past))
       (none_due config past (links past) link now.sent here) in
-      let behind = neither (play_by (is_free true link past) link (slice_get (accepted past) (cursor link past)))
-      (ask_by (is_free true link past) link (is_link link (goes_on config past)) (pending past) (sent_on past)) all.1 in
+      let behind = neither (play_by (is_free true link past) link (stale_on link (statements config past)) (unplayed (cursor link past) (statements config past)))
+      (ask_by (is_free true link past) link (stale_on link (statements config past)) (is_link link (goes_on config past)) (asking_for (pending past) link (statements config past).table.links) (sent_on past)) all.1 in
       (all.0, behind.0, behind.1)
 
   -- a link that isn't prepared doesn't rest
@@ -87,37 +89,40 @@ module _ (config : Config) (past : List Item) (legal : IsRecord config past) (qu
       let clash : Some (Puts (Sends link Prepares)) ≡ None = rw free at due in absurd cc
 
   -- and it has played the history
-  none_left : (link : ℕ) (entry : Option Command) → play_by true link entry ≡ None → entry ≡ None
-  none_left link None e = refl
-  none_left link (Some command) e = absurd cc
+  none_left : (link : ℕ) (stale : Option ℕ) (entry : Option HistoryEntry) → play_by true link stale entry ≡ None → entry ≡ None
+  none_left link stale None e = refl
+  none_left link stale (Some entry) e = absurd cc
 
-  played : (link : ℕ) → Contains (links past) link → linked link past ≡ Rests → cursor link past ≡ length (accepted past)
+  played : (link : ℕ) → Contains (links past) link → linked link past ≡ Rests → unplayed (cursor link past) (statements config past) ≡ None
   played link has is =
       let here = has_it (links past) link has in
       let up = prepared link here is (is_up link past) refl in
       let free : is_free true link past ≡ true = rw (here, up, is) refl in
       let due = (nothing_on link here).1 in
-      let due : play_by true link (slice_get (accepted past) (cursor link past)) ≡ None = rw free at due in
-      played_all config past legal link has (none_left link (slice_get (accepted past) (cursor link past)) due)
+      let due : play_by true link (stale_on link (statements config past)) (unplayed (cursor link past) (statements config past)) ≡ None = rw free at due in
+      none_left link (stale_on link (statements config past)) (unplayed (cursor link past) (statements config past)) due
 
   -- one that is prepared is free where nothing was sent on it, or plays an entry of the history
   abbrev PlaysOn : ℕ → Type 0
-  PlaysOn link = (entry : Command) × (e : Exchange) × (asked_on link past ≡ Some (Plays entry)) × (exchange link past ≡ Some e)
+  PlaysOn link = (entry : HistoryEntry) × (e : Exchange) × (asked_on link past ≡ Some (Plays entry)) × (exchange link past ≡ Some e)
 
   at_rest_up : (link : ℕ) → contains link (links past) ≡ true → is_up link past ≡ true → sent_on past ≡ None → (found : Option Exchange)
       → exchange link past ≡ found → (linked link past ≡ Rests) ⊎ PlaysOn link
   at_rest_up link here up s (Some e) x = by_waits (sound.waits link e here x)
     where
-      by_waits : WaitsOn link e (asked_on link past) (is_up link past) (pending past) (sent_on past) (told past) (owed config past)
+      by_waits : WaitsOn link e (asked_on link past) (is_up link past) (pending past) (sent_on past) (handle config past) (told past) (owed config past)
           → (linked link past ≡ Rests) ⊎ PlaysOn link
       by_waits (prepares asked down) = let clash : true ≡ false = sym up ∙ down in absurd cc
-      by_waits (repeats {command = entry} asked) = inr (entry, e, asked, x)
+      by_waits (repeats {entry = entry} asked) = inr (entry, e, asked, x)
       by_waits (replies awaits) = let clash : None ≡ Some link = sym s ∙ awaits.sent_there in absurd cc
   at_rest_up link here up s None x = by_idling (now.asked link (contained link (links past) here) x)
     where
       by_idling : Idles (linked link past) → (linked link past ≡ Rests) ⊎ PlaysOn link
       by_idling (rests_now is) = inl is
       by_idling (enters_now is f) = let clash : true ≡ false = sym (ap logs_in is) ∙ legal_up legal link up in absurd cc
+
+  some_due : (link : ℕ) (stale : Option ℕ) (purpose : Purpose) → ask_by true link stale true (Some purpose) None ≡ None → ⊥
+  some_due link stale purpose e = cc
 
   module _ (command : Command) (p : pending past ≡ Some command) where
     waits_unsent : (link : ℕ) → goes_on config past ≡ Some link → contains link (links past) ≡ true → sent_on past ≡ None → (up : Bool)
@@ -128,7 +133,8 @@ module _ (config : Config) (past : List Item) (legal : IsRecord config past) (qu
               let free : is_free true link past ≡ true = rw (here, u, is) refl in
               let itself : (link == link) ≡ true = eq-eqb link link refl in
               let due = (nothing_on link here).2 in
-              let clash : Some (Puts (Sends link (Asks command))) ≡ None = rw (free, g, itself, p, s) at due in absurd cc
+              let due : ask_by true link (stale_on link (statements config past)) true (Some (Asks command (id_for link command.body (statements config past).table.links))) None ≡ None = rw (free, g, itself, p, s) at due in
+              absurd (some_due link (stale_on link (statements config past)) (Asks command (id_for link command.body (statements config past).table.links)) due)
           | inr plays ↦ for_entry link plays.0 plays.1 (contained link (links past) here) g s plays.2 plays.3
         ]
     waits_unsent link g here s false u =

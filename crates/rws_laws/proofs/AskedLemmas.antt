@@ -5,10 +5,10 @@ use Rattle.rws_native.specs.declared.login.Login.{Login}
 use Rattle.rws_route.specs.declared.destination.Target.{Target}
 use Rattle.rws_route.specs.declared.destination.Target.TheVariants.{Primary, Replica, NoPrimary as Nowhere}
 use Rattle.rws_routing.specs.Routings.{finds_late, server_in}
-use Rattle.rws_record.specs.declared.command.Command.{Command}
+use Rattle.rws_commands.specs.declared.command.Command.{Command}
 use Rattle.rws_record.specs.Item.{Item, Put}
 use Rattle.rws_record.specs.Item.Item.{Accepted, TurnsAway, Began, ClientBytes, LinkReady, LinkBytes, ClientGone, LinkLost, Ticks, Routed, Puts}
-use Rattle.rws_record.specs.Item.Put.{Hands, Tells, Routes, Opens, LogsInto, Sends, Drops, Closes}
+use Rattle.rws_record.specs.Item.Put.{Hands, Tells, Routes, Opens, LogsInto, Sends, Forgets, Drops, Closes}
 use Rattle.rws_record.specs.Values.{asking, goes_on, link_to, login_of, now, pending, reply_number, routing, is_over}
 use Rattle.rws_record.specs.Rules.{after_route, owed}
 use Rattle.rws_record.specs.Record.{IsBeginning, IsInput, IsRecord}
@@ -16,7 +16,7 @@ use Rattle.rws_record.specs.Record.IsRecord.{begins, steps, answers, hears, star
 use Rattle.rws_record.proofs.OpeningLemmas.{is_answered, plain_unless_answered}
 use Rattle.rws_record.proofs.StepLemmas.{Due, Step, goes_unasking, of_next}
 use Rattle.rws_record.proofs.StepLemmas.Due.{comes, connects, takes}
-use Rattle.rws_record.proofs.StepLemmas.Step.{pays, asks, prepares, plays, sends, floods, reads}
+use Rattle.rws_record.proofs.StepLemmas.Step.{pays, asks, prepares, forgets, plays, sends, floods, reads}
 
 -- the newest item asks, where nothing was owed
 pub data AskedNow (config : Config) : List Item → Type 0 where
@@ -78,6 +78,7 @@ put_unasked config past Routes others o none some = asks_not config past others 
 put_unasked config past (Hands packets) others o none some = clash none some
 put_unasked config past (Tells number tell) others o none some = clash none some
 put_unasked config past (Opens link server its) others o none some = clash none some
+put_unasked config past (Forgets link id) others o none some = clash none some
 put_unasked config past (LogsInto link packets) others o none some = clash none some
 put_unasked config past (Sends link purpose) others o none some = clash none some
 put_unasked config past (Drops link cause) others o none some = clash none some
@@ -94,8 +95,9 @@ step_asked : {config : Config} {past : List Item} {item : Item} → IsRecord con
 step_asked {config} {past} legal (pays {put = put} {others = others} o) none some = put_unasked config past put others o none some
 step_asked legal (asks o n p g w) none some = asked_now legal o n p g w
 step_asked legal (prepares o n has f) none some = clash none some
-step_asked legal (plays o n has f s) none some = clash none some
-step_asked legal (sends o n p s g f d) none some = clash none some
+step_asked legal (plays o n has f t s) none some = clash none some
+step_asked legal (sends o n p s g f t d i) none some = clash none some
+step_asked legal (forgets o n has f t) none some = clash none some
 step_asked legal (floods o n p above) none some = clash none some
 step_asked legal (reads o n due) none some = due_unasked due none some
 

@@ -1,5 +1,5 @@
 -- The reply to a command that was sent is awaited, until its end is passed on or the session is closed.
-use Rattle.std.proofs.Common.{◌≡◌, ℕ, ◌+◌, Bool, true, false, List, [], ◌∷◌, refl, sym, ap, subst, ◌∙◌, Some, None}
+use Rattle.std.proofs.Common.{◌≡◌, ℕ, ◌+◌, Bool, true, false, List, [], ◌∷◌, refl, sym, ap, subst, ◌∙◌, Option, Some, None}
 use Rattle.std.specs.Prelude.{◌==◌, Contains}
 use Rattle.std.proofs.lemmas.Bool.{eqb-true, eq-eqb}
 use Rattle.rws_wire.specs.declared.drop_cause.DropCause.{DropCause}
@@ -10,7 +10,6 @@ use Rattle.rws_reply.specs.declared.role.Role.{Role}
 use Rattle.rws_reply.specs.Tracking.{progress, role}
 use Rattle.rws_reply.specs.Replies.{Payload}
 use Rattle.rws_reply.specs.ClientForm.{client_reply}
-use Rattle.rws_wire.specs.Packets.{number_behind}
 use Rattle.rws_wire.specs.Payloads.{first_payload}
 use Rattle.rws_wire.specs.Payloads.Beginning.{Whole}
 use Rattle.rws_link.specs.declared.step.LinkStep.{LinkStep}
@@ -22,14 +21,14 @@ use Rattle.rws_select.specs.declared.selector.Load.{Load}
 use Rattle.rws_route.specs.declared.destination.Target.{Target}
 use Rattle.rws_config.specs.declared.config.Config.{Config}
 use Rattle.rws_config.specs.declared.limits.TheConstants.{SERVER_PAYLOAD}
-use Rattle.rws_record.specs.declared.command.Command.{Command}
+use Rattle.rws_commands.specs.declared.command.Command.{Command}
 use Rattle.rws_record.specs.Item.{Item, Tell, Put}
 use Rattle.rws_record.specs.Item.Item.{Accepted, TurnsAway, Began, ClientBytes, LinkReady, LinkBytes, ClientGone, LinkLost, Ticks, Routed, Comes, Connects, Floods, Puts}
 use Rattle.rws_record.specs.Item.{Purpose}
 use Rattle.rws_record.specs.Item.Purpose.{Prepares, Asks, Plays}
-use Rattle.rws_record.specs.Item.Put.{Hands, Tells, Routes, LogsInto, Sends, Drops, Closes}
+use Rattle.rws_record.specs.Item.Put.{Hands, Tells, Routes, LogsInto, Sends, Forgets, Drops, Closes}
 use Rattle.rws_record.specs.Item.Tell.{Passes, Owns, Refuses}
-use Rattle.rws_record.specs.Values.{asking, links, asked_on, is_up, awaited, exchange, linked, prepared_handle, pending, sent_on, reply_number, told, is_over, is_starved}
+use Rattle.rws_record.specs.Values.{asking, links, asked_on, is_up, awaited, exchange, linked, named_in, named_on, sent_all, statements, pending, sent_on, reply_number, told, is_over, is_starved}
 use Rattle.rws_record.specs.Rules.{next, owed, after_answer, found_in, flood_limit, form_of, recording_of}
 use Rattle.rws_record.proofs.LinkedLemmas.{Says, after_part_is}
 use Rattle.rws_record.proofs.LinkedLemmas.Says.{answers, enters, hurries, fails, breaks, part, garbled, wrong, again}
@@ -37,13 +36,16 @@ use Rattle.rws_record.specs.Record.{IsBeginning, IsRecord, IsInput}
 use Rattle.rws_record.specs.Record.IsRecord.{begins, steps as goes, answers as answered, hears, starves}
 use Rattle.rws_record.proofs.StepLemmas.{Due, Step, of_next, rests_owing_nothing}
 use Rattle.rws_record.proofs.StepLemmas.Due.{comes, connects, takes}
-use Rattle.rws_record.proofs.StepLemmas.Step.{pays, asks, prepares as prepares_it, plays, sends, floods, reads}
+use Rattle.rws_record.proofs.StepLemmas.Step.{pays, asks, prepares as prepares_it, forgets, plays, sends, floods, reads}
 use Rattle.rws_record.proofs.OpeningLemmas.{asks_owing_nothing}
 use Rattle.rws_laws.specs.Servers.{came_on}
 use Rattle.rws_laws.proofs.AskedLemmas.{AskedNow, legal_asked}
 use Rattle.rws_laws.proofs.AskedLemmas.AskedNow.{asked_now}
 use Rattle.rws_laws.proofs.CameLemmas.{bytes_keep, legal_came, ready_keeps}
-use Rattle.rws_laws.proofs.Sound.{Caused, Sound, WaitsOn, same_some}
+use Rattle.rws_laws.proofs.Sound.{Caused, Sound, WaitsOn, handle, same_some}
+use Rattle.rws_laws.proofs.SendableLemmas.{sends_something}
+use Rattle.rws_commands.specs.Commands.{asked_under}
+use Rattle.rws_commands.specs.Statements.{next_handle}
 use Rattle.rws_laws.proofs.Sound.WaitsOn.{prepares, repeats, replies}
 use Rattle.rws_laws.proofs.Sound.Caused.{drops, leaves, closes, hands, logs_on, opens, tells}
 use Rattle.rws_laws.proofs.ListLemmas.{differs, has_it}
@@ -61,7 +63,7 @@ ends_it link _ = false
 
 -- the reply to what was sent on a link
 data AwaitsOn (config : Config) (link : ℕ) (past : List Item) : Type 0 where
-  awaits : {e : Exchange} {command : Command} → exchange link past ≡ Some e → asked_on link past ≡ Some (Asks command) → AwaitsOn config link past
+  awaits : {e : Exchange} {command : Command} {id : Option ℕ} → exchange link past ≡ Some e → asked_on link past ≡ Some (Asks command id) → AwaitsOn config link past
   settles : ends_it link (owed config past) ≡ true → AwaitsOn config link past
   over : is_over past ≡ true → AwaitsOn config link past
 
@@ -116,19 +118,20 @@ module _ (config : Config) (past : List Item) (sound : Sound config past) (await
   module _ (o : owed config past ≡ []) (n : is_over past ≡ false) where
     -- while nothing is owed
     its_reply : (link : ℕ) → sent_on past ≡ Some link
-        → (e : Exchange) × (command : Command) × (exchange link past ≡ Some e) × (asked_on link past ≡ Some (Asks command))
+        → (e : Exchange) × (command : Command) × (id : Option ℕ) × (exchange link past ≡ Some e) × (asked_on link past ≡ Some (Asks command id))
     its_reply link s = elim (awaiting link s) [
-      | awaits {e = e} {command = command} a p ↦ (e, command, a, p)
+      | awaits {e = e} {command = command} {id = id} a p ↦ (e, command, id, a, p)
       | settles end ↦ absurd (let e : false ≡ true = ap (ends_it link) (sym o) ∙ end in cc)
       | over is ↦ absurd cc
     ]
 
     -- a payload that brings the reply on leaves it awaited, a last one is passed on with its end, and a loss closes the session
-    owed_by : (from : ℕ) (command : Command) (payload rest : Payload) (number : ℕ) (its : Role) (far : Progress)
-        → asked_on from past ≡ Some (Asks command)
+    owed_by : (from : ℕ) (command : Command) (id : Option ℕ) (payload rest : Payload) (number : ℕ) (its : Role) (far : Progress)
+        → asked_on from past ≡ Some (Asks command id)
         → owed config (Comes from (steps.Part payload its far number (is_some_byte rest)) ∷ past)
-        ≡ after_answer from command (form_of its payload) far (is_some_byte rest) (reply_number past) (λ outcome. recording_of config past outcome)
-    owed_by from command payload rest number its far a = rw a refl
+        ≡ after_answer from command (form_of (handle config past) its payload) (named_in its payload (named_on from past)) far (is_some_byte rest) (reply_number past)
+        (λ outcome. recording_of config from past outcome)
+    owed_by from command id payload rest number its far a = rw a refl
 
     -- a link that owes nothing to the client says something
     beside : (from : ℕ) (said : LinkStep) → ((link : ℕ) → from ≡ link → sent_on past ≡ Some link → ⊥) → Awaiting config (Comes from said ∷ past)
@@ -136,12 +139,12 @@ module _ (config : Config) (past : List Item) (sound : Sound config past) (await
       where
         by_link : (link : ℕ) → sent_on past ≡ Some link → (same : Bool) → (from == link) ≡ same → AwaitsOn config link (Comes from said ∷ past)
         by_link link s true t = absurd (other link (eqb-true from link t) s)
-        by_link link s false t = let mine = its_reply link s in awaits {e = mine.0} {command = mine.1} (rw t mine.2) mine.3
+        by_link link s false t = let mine = its_reply link s in awaits {e = mine.0} {command = mine.1} {id = mine.2} (rw t mine.3) mine.4
 
     part_awaits : (from : ℕ) (e : Exchange) (bytes payload rest : Payload) (number : ℕ) (its : Role) (far : Progress)
         → linked from past ≡ Awaits e bytes → first_payload SERVER_PAYLOAD e.next bytes ≡ Whole payload number rest
         → role e.kind e.sofar payload ≡ Some its → progress e.kind e.sofar payload ≡ Some far
-        → WaitsOn from e (asked_on from past) (is_up from past) (pending past) (sent_on past) (told past) (owed config past)
+        → WaitsOn from e (asked_on from past) (is_up from past) (pending past) (sent_on past) (handle config past) (told past) (owed config past)
         → Awaiting config (Comes from (steps.Part payload its far number (is_some_byte rest)) ∷ past)
     part_awaits from e bytes payload rest number its far is f r p (prepares asked up) =
         beside from (steps.Part payload its far number (is_some_byte rest))
@@ -149,13 +152,13 @@ module _ (config : Config) (past : List Item) (sound : Sound config past) (await
         let there = sound.sent link s in
         let down : is_up link past ≡ false = subst (λ (l : ℕ). is_up l past ≡ false) same up in
         let clash : false ≡ true = sym down ∙ there.3 in cc)
-    part_awaits from e bytes payload rest number its far is f r p (repeats {command = entry} asked) =
+    part_awaits from e bytes payload rest number its far is f r p (repeats {entry = entry} asked) =
         beside from (steps.Part payload its far number (is_some_byte rest))
         (λ link same s.
         let mine = its_reply link s in
-        let clash : Some (Plays entry) ≡ Some (Asks mine.1) = sym asked ∙ ap (λ (l : ℕ). asked_on l past) same ∙ mine.3 in cc)
+        let clash : Some (Plays entry) ≡ Some (Asks mine.1 mine.2) = sym asked ∙ ap (λ (l : ℕ). asked_on l past) same ∙ mine.4 in cc)
     part_awaits from e bytes payload rest number its (Ends outcome) is f r p (replies waits) = λ link s.
-        settles (ap (ends_it link) (owed_by from waits.command payload rest number its (Ends outcome) waits.asked_it))
+        settles (ap (ends_it link) (owed_by from waits.command waits.id payload rest number its (Ends outcome) waits.asked_it))
     part_awaits from e bytes payload rest number its More is f r p (replies waits) = λ link s. (by_link link s (from == link) refl)
       where
         by_link : (link : ℕ) → sent_on past ≡ Some link → (same : Bool) → (from == link) ≡ same
@@ -166,7 +169,7 @@ module _ (config : Config) (past : List Item) (sound : Sound config past) (await
             awaits {e = with_part payload number e} {command = waits.command}
             (rw t (ap (λ (l : LinkState). awaited (step l).after) is ∙ ap awaited (after_part_is e bytes payload rest number its More f r p)))
             (ap (λ (l : ℕ). asked_on l past) (sym same) ∙ waits.asked_it)
-        by_link link s false t = let mine = its_reply link s in awaits {e = mine.0} {command = mine.1} (rw t mine.2) mine.3
+        by_link link s false t = let mine = its_reply link s in awaits {e = mine.0} {command = mine.1} {id = mine.2} (rw t mine.3) mine.4
 
     logging : (from : ℕ) (said : LinkStep) → awaited (linked from past) ≡ None → Awaiting config (Comes from said ∷ past)
     logging from said none =
@@ -174,7 +177,7 @@ module _ (config : Config) (past : List Item) (sound : Sound config past) (await
         (λ link same s.
         let mine = its_reply link s in
         let none : exchange link past ≡ None = subst (λ (l : ℕ). exchange l past ≡ None) same none in
-        let clash : None ≡ Some mine.0 = sym none ∙ mine.2 in cc)
+        let clash : None ≡ Some mine.0 = sym none ∙ mine.3 in cc)
 
     -- a link that is lost is given up, and on another the reply is still awaited
     loses_awaits : (from : ℕ) (cause : LinkCause) → Awaiting config (Comes from (steps.Lost cause) ∷ past)
@@ -184,7 +187,7 @@ module _ (config : Config) (past : List Item) (sound : Sound config past) (await
             → AwaitsOn config link (Comes from (steps.Lost cause) ∷ past)
         by_link link s true t = settles t
         by_link link s false t =
-            let mine = its_reply link s in let other = differs link from t in awaits {e = mine.0} {command = mine.1} (rw other mine.2) mine.3
+            let mine = its_reply link s in let other = differs link from t in awaits {e = mine.0} {command = mine.1} {id = mine.2} (rw other mine.3) mine.4
 
     coming_awaits : (from : ℕ) (state : LinkState) (said : LinkStep) → linked from past ≡ state → Contains (links past) from → Says state said
         → Awaiting config (Comes from said ∷ past)
@@ -202,7 +205,7 @@ module _ (config : Config) (past : List Item) (sound : Sound config past) (await
     still : (item : Item) → sent_on (item ∷ past) ≡ sent_on past
         → ((link : ℕ) → exchange link (item ∷ past) ≡ exchange link past) → ((link : ℕ) → asked_on link (item ∷ past) ≡ asked_on link past)
         → Awaiting config (item ∷ past)
-    still item same x q = λ link s. let its = its_reply link (sym same ∙ s) in awaits {command = its.1} (x link ∙ its.2) (q link ∙ its.3)
+    still item same x q = λ link s. let its = its_reply link (sym same ∙ s) in awaits {command = its.1} {id = its.2} (x link ∙ its.3) (q link ∙ its.4)
 
     due_awaits : {item : Item} → Due config past item → Awaiting config (item ∷ past)
     due_awaits (comes {link = from} {said = said} has a it) = coming_awaits from (linked from past) said refl has it
@@ -215,43 +218,47 @@ module _ (config : Config) (past : List Item) (sound : Sound config past) (await
     input_awaits (LinkBytes from bytes) input = still (LinkBytes from bytes) refl (bytes_keep past from bytes) (λ link. refl)
     input_awaits ClientGone input = λ link s. over refl
     input_awaits (LinkLost gone) input = λ link s.
-        let before = unless_before gone link (sent_on past) s in let mine = its_reply link before.0 in awaits {e = mine.0} {command = mine.1} mine.2 mine.3
+        let before = unless_before gone link (sent_on past) s in let mine = its_reply link before.0 in awaits {e = mine.0} {command = mine.1} {id = mine.2} mine.3 mine.4
     input_awaits (Ticks reading) input = still (Ticks reading) refl (λ link. refl) (λ link. refl)
     input_awaits _ input = absurd input
 
-send_awaits : (config : Config) (past : List Item) (to : ℕ) (command : Command) → Awaiting config (Puts (Sends to (Asks command)) ∷ past)
-send_awaits config past to command = λ link s.
+send_awaits : (config : Config) (past : List Item) (to : ℕ) (command : Command) (id : Option ℕ)
+    → (e : Exchange) × (awaited (sent_all (asked_under id command.body) command.kind) ≡ Some e) → Awaiting config (Puts (Sends to (Asks command id)) ∷ past)
+send_awaits config past to command id its = λ link s.
     let same : to ≡ link = same_some to link s in
     let itself : (to == link) ≡ true = eq-eqb to link same in
-    awaits {e = record { kind = command.kind; next = number_behind 0 command.payload; sofar = [] }} {command = command} (rw itself refl) (rw itself refl)
+    awaits {e = its.0} {command = command} {id = id} (rw itself its.1) (rw itself refl)
 
 -- the session sends something by itself on a link that owes no reply; the pending command, if it was sent, was sent on another
 own_awaits : (config : Config) (past : List Item) (to : ℕ) (purpose : Purpose) → linked to past ≡ Rests
     → ((link : ℕ) → sent_on past ≡ Some link
-    → (e : Exchange) × (command : Command) × (exchange link past ≡ Some e) × (asked_on link past ≡ Some (Asks command)))
+    → (e : Exchange) × (command : Command) × (id : Option ℕ) × (exchange link past ≡ Some e) × (asked_on link past ≡ Some (Asks command id)))
     → ((link : ℕ) → sent_on (Puts (Sends to purpose) ∷ past) ≡ Some link → sent_on past ≡ Some link) → Awaiting config (Puts (Sends to purpose) ∷ past)
 own_awaits config past to purpose is its same = λ link s. by_link link (same link s) (to == link) refl
   where
     by_link : (link : ℕ) → sent_on past ≡ Some link → (test : Bool) → (to == link) ≡ test → AwaitsOn config link (Puts (Sends to purpose) ∷ past)
     by_link link s true t =
         let mine = its link s in
-        let clash : None ≡ Some mine.0 = sym (ap awaited is) ∙ ap (λ (l : ℕ). exchange l past) (eqb-true to link t) ∙ mine.2 in absurd cc
-    by_link link s false t = let mine = its link s in awaits {e = mine.0} {command = mine.1} (rw t mine.2) (rw t mine.3)
+        let clash : None ≡ Some mine.0 = sym (ap awaited is) ∙ ap (λ (l : ℕ). exchange l past) (eqb-true to link t) ∙ mine.3 in absurd cc
+    by_link link s false t = let mine = its link s in awaits {e = mine.0} {command = mine.1} {id = mine.2} (rw t mine.3) (rw t mine.4)
 
-step_awaits : {config : Config} {past : List Item} {item : Item} → Step config past item → Sound config past → Awaiting config past
+step_awaits : {config : Config} {past : List Item} {item : Item} → Step config past item → Sound config past → IsRecord config past → Awaiting config past
     → Awaiting config (item ∷ past)
-step_awaits {config} {past} (pays {put = put} {others = others} o) sound awaiting =
+step_awaits {config} {past} (pays {put = put} {others = others} o) sound legal awaiting =
     put_awaits config past sound awaiting put others o (subst (λ (list : List Put). Caused config list past) o sound.owes)
-step_awaits {config} {past} (asks o n p k l) sound awaiting =
+step_awaits {config} {past} (asks o n p k l) sound legal awaiting =
     still config past sound awaiting o n (Puts Routes) refl (λ link. refl) (λ link. refl)
-step_awaits {config} {past} (prepares_it {link = to} o n k c) sound awaiting =
+step_awaits {config} {past} (prepares_it {link = to} o n k c) sound legal awaiting =
     own_awaits config past to Prepares (freed false to past c).2 (its_reply config past sound awaiting o n) (λ link s. s)
-step_awaits {config} {past} (plays {link = to} {command = command} o n k c s) sound awaiting =
-    own_awaits config past to (Plays command) (freed true to past c).2 (its_reply config past sound awaiting o n) (λ link s. s)
-step_awaits {config} {past} (sends {link = to} {command = command} o n p s k c d) sound awaiting = send_awaits config past to command
-step_awaits {config} {past} (floods o n p above) sound awaiting =
+step_awaits {config} {past} (plays {link = to} {entry = entry} o n k c t s) sound legal awaiting =
+    own_awaits config past to (Plays entry) (freed true to past c).2 (its_reply config past sound awaiting o n) (λ link s. s)
+step_awaits {config} {past} (sends {link = to} {command = command} {id = id} o n p s k c t d i) sound legal awaiting = send_awaits config past to command id
+    (sends_something config past to command legal p k (freed true to past c).0 d id i)
+step_awaits {config} {past} (forgets {link = to} {id = id} o n has f t) sound legal awaiting =
+    still config past sound awaiting o n (Puts (Forgets to id)) refl (λ link. refl) (λ link. refl)
+step_awaits {config} {past} (floods o n p above) sound legal awaiting =
     still config past sound awaiting o n (Floods (flood_limit config + 1)) refl (λ link. refl) (λ link. refl)
-step_awaits {config} {past} (reads o n due) sound awaiting = due_awaits config past sound awaiting o n due
+step_awaits {config} {past} (reads o n due) sound legal awaiting = due_awaits config past sound awaiting o n due
 
 begins_awaiting : (config : Config) (item : Item) → IsBeginning item → Awaiting config (item ∷ [])
 begins_awaiting config (Accepted session scramble reading) its = λ other s. absurd cc
@@ -270,7 +277,7 @@ legal_awaits {config} (begins {item = item} its) fed = begins_awaiting config it
 legal_awaits {config} (goes {past = past} {item = item} legal e) fed =
     let step = of_next config past item e in
     let before = sym (step_starved step) ∙ fed in
-    step_awaits step (legal_sound legal before) (legal_awaits legal before)
+    step_awaits step (legal_sound legal before) legal (legal_awaits legal before)
 legal_awaits {config} (answered {past = past} {words = words} {loads = loads} {next_link = next} legal asked) fed =
     answer_awaits config words loads next (found_in config past words loads) (legal_asked legal asked) (legal_sound legal fed) (legal_awaits legal fed)
     (asks_owing_nothing legal asked)
@@ -284,10 +291,10 @@ legal_awaits (starves legal once can its) fed = absurd cc
 pub rests_awaiting : (config : Config) (past : List Item) → IsRecord config past → next config past ≡ None → asking past ≡ false
     → is_over past ≡ false → (command : Command) (link : ℕ) → pending past ≡ Some command → sent_on past ≡ Some link
     → (number : ℕ) × (exchange link past ≡ Some (record { kind = command.kind; next = number; sofar = came_on link past }))
-    × (told past ≡ client_reply command.kind prepared_handle (came_on link past))
+    × (told past ≡ client_reply command.kind (next_handle (statements config past)) (came_on link past))
 rests_awaiting config past legal rests none n command link p s =
     let its = its_reply config past sound (legal_awaits legal fed) o n link s in
-    by_waits its.0 its.2 (sound.waits link its.0 (sound.sent link s).4 its.2)
+    by_waits its.0 its.3 (sound.waits link its.0 (sound.sent link s).4 its.3)
   where
     o : owed config past ≡ []
     o = rests_owing_nothing config past rests none
@@ -299,14 +306,14 @@ rests_awaiting config past legal rests none n command link p s =
     sound = legal_sound legal fed
 
     by_waits : (e : Exchange) → exchange link past ≡ Some e
-        → WaitsOn link e (asked_on link past) (is_up link past) (pending past) (sent_on past) (told past) (owed config past)
+        → WaitsOn link e (asked_on link past) (is_up link past) (pending past) (sent_on past) (handle config past) (told past) (owed config past)
         → (number : ℕ) × (exchange link past ≡ Some (record { kind = command.kind; next = number; sofar = came_on link past }))
-        × (told past ≡ client_reply command.kind prepared_handle (came_on link past))
+        × (told past ≡ client_reply command.kind (next_handle (statements config past)) (came_on link past))
     by_waits e is (prepares asked up) =
         let there = sound.sent link s in let clash : false ≡ true = sym up ∙ there.3 in absurd cc
-    by_waits e is (repeats {command = entry} asked) =
+    by_waits e is (repeats {entry = entry} asked) =
         let mine = its_reply config past sound (legal_awaits legal fed) o n link s in
-        let clash : Some (Plays entry) ≡ Some (Asks mine.1) = sym asked ∙ mine.3 in absurd cc
+        let clash : Some (Plays entry) ≡ Some (Asks mine.1 mine.2) = sym asked ∙ mine.4 in absurd cc
     by_waits e is (replies waits) =
         let same : waits.command ≡ command = same_some waits.command command (sym waits.waits ∙ p) in
         let came = legal_came legal link e is in
@@ -314,6 +321,6 @@ rests_awaiting config past legal rests none n command link p s =
           e.next,
           is ∙ ap (λ (kind : Kind). Some (record { kind = kind; next = e.next; sofar = e.sofar })) (waits.kind ∙ ap (λ (c : Command). c.kind) same)
               ∙ ap (λ (sofar : List Payload). Some (record { kind = command.kind; next = e.next; sofar = sofar })) came,
-          sym form ∙ ap (client_reply waits.command.kind prepared_handle) came
-              ∙ ap (λ (c : Command). client_reply c.kind prepared_handle (came_on link past)) same,
+          sym form ∙ ap (client_reply waits.command.kind (handle config past)) came
+              ∙ ap (λ (c : Command). client_reply c.kind (handle config past) (came_on link past)) same,
         )

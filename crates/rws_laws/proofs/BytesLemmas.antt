@@ -22,16 +22,17 @@ use Rattle.rws_link.specs.declared.handshake.Reaction.TheVariants.{Answers, Acce
 use Rattle.rws_link.specs.Handshake.{due, reaction}
 use Rattle.rws_link.specs.declared.step.LinkStep.{LinkStep}
 use Rattle.rws_link.specs.declared.step.LinkStep.TheVariants as steps
-use Rattle.rws_link.specs.Stepping.{LinkState, LogsIn, Rests, Awaits, IsLost, Exchange, behind_part, fed, is_new, logged_in, opened as opening, reacted, read_by, replied, replied_by, sent, settled, step, with_part}
+use Rattle.rws_link.specs.Stepping.{LinkState, LogsIn, Rests, Awaits, IsLost, Exchange, behind_part, fed, is_new, logged_in, opened as opening, reacted, read_by, replied, replied_by, settled, step, with_part}
 use Rattle.rws_config.specs.declared.config.Config.{Config}
 use Rattle.rws_config.specs.declared.limits.TheConstants.{SERVER_PAYLOAD}
 use Rattle.rws_record.specs.Item.{Item}
 use Rattle.rws_record.specs.Item.Item.{Accepted, TurnsAway, Began, ClientBytes, LinkReady, LinkBytes, ClientGone, LinkLost, Ticks, Routed, Comes, Connects, Takes, Floods, Puts, Starves}
-use Rattle.rws_record.specs.Item.Put.{Hands, Tells, Routes, Opens, LogsInto, Sends, Drops, Closes}
-use Rattle.rws_record.specs.Values.{kind_of, link_held, linked, sent_for, unread}
+use Rattle.rws_record.specs.Item.Put.{Hands, Tells, Routes, Opens, LogsInto, Sends, Forgets, Drops, Closes}
+use Rattle.rws_record.specs.Values.{kind_of, link_held, linked, sent_all, sent_for, unread}
 use Rattle.rws_laws.specs.Servers.{came_on, with_said}
 use Rattle.rws_laws.specs.Causes.{AreCaused, IsRead}
 use Rattle.rws_laws.specs.Laws.{HeardBytes}
+use Rattle.rws_laws.proofs.CameLemmas.{by_sent}
 
 -- Lists of bytes
 
@@ -163,7 +164,8 @@ held_fits link (Comes from said ∷ past) heard =
     one_fits (from == link) _ _ (step_fits (linked link past) below) below
 held_fits link (Began first server reading ∷ past) heard = one_fits (first == link) Rests _ none_fit (held_fits link past heard)
 held_fits link (Puts (Sends to purpose) ∷ past) heard =
-    one_fits (to == link) (sent (sent_for purpose) (Some (kind_of purpose))) _ none_fit (held_fits link past heard)
+    one_fits (to == link) (sent_all (sent_for purpose) (kind_of purpose)) _
+    (by_sent (λ (state : LinkState). AreBytes (unread state)) none_fit (λ e. none_fit) (sent_for purpose) (kind_of purpose)) (held_fits link past heard)
 held_fits link (LinkReady ready ∷ past) heard =
     let below = held_fits link past heard in
     one_fits (ready == link) _ _ (one_fits (is_new (linked link past)) Rests _ none_fit below) below
@@ -175,6 +177,7 @@ held_fits link (Routed words loads next found ∷ past) heard = held_fits link p
 held_fits link (Connects said ∷ past) heard = held_fits link past heard
 held_fits link (Puts (Hands packets) ∷ past) heard = held_fits link past heard
 held_fits link (Puts Routes ∷ past) heard = held_fits link past heard
+held_fits link (Puts (Forgets to id) ∷ past) heard = held_fits link past heard
 held_fits link (Puts (LogsInto to packets) ∷ past) heard = held_fits link past heard
 held_fits link (ClientBytes bytes ∷ past) heard = held_fits link past heard
 held_fits link (ClientGone ∷ past) heard = held_fits link past heard
@@ -223,6 +226,7 @@ came_fits config link (Connects said ∷ past) caused heard = came_fits config l
 came_fits config link (Puts (Hands packets) ∷ past) caused heard = came_fits config link past caused.1 heard
 came_fits config link (Puts Routes ∷ past) caused heard = came_fits config link past caused.1 heard
 came_fits config link (Puts (Opens opened server login) ∷ past) caused heard = came_fits config link past caused.1 heard
+came_fits config link (Puts (Forgets to id) ∷ past) caused heard = came_fits config link past caused.1 heard
 came_fits config link (Puts (LogsInto to packets) ∷ past) caused heard = came_fits config link past caused.1 heard
 came_fits config link (Began first server reading ∷ past) caused heard = came_fits config link past caused.2 heard
 came_fits config link (ClientBytes bytes ∷ past) caused heard = came_fits config link past caused.2 heard

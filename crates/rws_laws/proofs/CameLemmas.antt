@@ -7,6 +7,7 @@ use Rattle.rws_reply.specs.declared.kind.Progress.TheVariants.{More, Whole as En
 use Rattle.rws_config.specs.declared.limits.TheConstants.{SERVER_PAYLOAD}
 use Rattle.rws_reply.specs.Replies.{Payload}
 use Rattle.rws_reply.specs.ClientForm.{client_reply}
+use Rattle.rws_wire.specs.Packets.{number_behind}
 use Rattle.rws_wire.specs.Payloads.{first_payload}
 use Rattle.rws_wire.specs.Payloads.Beginning.{Whole}
 use Rattle.rws_native.specs.declared.login.Login.{Login}
@@ -17,26 +18,45 @@ use Rattle.rws_link.specs.Handshake.{due, reaction}
 use Rattle.rws_link.specs.declared.step.LinkCause.{LinkCause}
 use Rattle.rws_link.specs.declared.step.LinkStep.{LinkStep}
 use Rattle.rws_link.specs.declared.step.LinkStep.TheVariants as steps
-use Rattle.rws_link.specs.Stepping.{LinkState, LogsIn, Rests, Awaits, IsLost, Exchange, behind_part, fed, is_new, opened as opening, readied, sent, settled, step, with_part}
+use Rattle.rws_link.specs.Stepping.{LinkState, LogsIn, Rests, Awaits, IsLost, Exchange, behind_part, fed, is_new, opened as opening, readied, settled, step, with_part}
 use Rattle.rws_config.specs.declared.config.Config.{Config}
 use Rattle.rws_record.specs.Item.{Item, Purpose, Put}
 use Rattle.rws_record.specs.Item.Item.{Accepted, TurnsAway, Began, ClientBytes, LinkReady, LinkBytes, ClientGone, LinkLost, Ticks, Comes, Puts}
 use Rattle.rws_record.specs.Item.Purpose.{Prepares, Asks, Plays}
-use Rattle.rws_record.specs.Item.Put.{Hands, Tells, Routes, Opens, LogsInto, Sends, Drops, Closes}
-use Rattle.rws_record.specs.Values.{awaited, exchange, kind_of, linked, prepared_handle, sent_for}
+use Rattle.rws_record.specs.Item.Put.{Hands, Tells, Routes, Opens, LogsInto, Sends, Forgets, Drops, Closes}
+use Rattle.rws_record.specs.Values.{awaited, exchange, kind_of, linked, sent_all, sent_for}
 use Rattle.rws_record.specs.Record.{IsBeginning, IsRecord, IsInput}
 use Rattle.rws_record.specs.Record.IsRecord.{begins, steps as goes, answers as answered, hears, starves}
 use Rattle.rws_record.proofs.LinkedLemmas.{Says, after_loss_is, after_part_is}
 use Rattle.rws_record.proofs.LinkedLemmas.Says.{answers, enters, hurries, fails, breaks, part, garbled, wrong, again}
 use Rattle.rws_record.proofs.StepLemmas.{Due, Step, of_next}
 use Rattle.rws_record.proofs.StepLemmas.Due.{comes, connects, takes}
-use Rattle.rws_record.proofs.StepLemmas.Step.{pays, asks, prepares, plays, sends, floods, reads}
+use Rattle.rws_record.proofs.StepLemmas.Step.{pays, asks, prepares, forgets, plays, sends, floods, reads}
 use Rattle.rws_laws.specs.Servers.{came_on, with_said}
 
 -- nothing came yet
-pub no_form : (kind : Kind) → client_reply kind prepared_handle [] ≡ []
+pub no_form : (kind : Kind) (handle : ℕ) → client_reply kind handle [] ≡ []
 unfolding client_reply
-no_form kind = refl
+no_form kind handle = refl
+
+-- a link that was sent payloads awaits a reply of their kind
+pub sent_awaits : (payloads : List (List ℕ)) (kind : Kind) (e : Exchange) → awaited (sent_all payloads kind) ≡ Some e
+    → (e.kind ≡ kind) × (e.sofar ≡ [])
+sent_awaits [] kind e a = absurd cc
+sent_awaits (payload ∷ []) kind e a =
+    let is = some_is (record { kind = kind; next = number_behind 0 payload; sofar = [] }) e a in
+    (sym (ap (λ (x : Exchange). x.kind) is), sym (ap (λ (x : Exchange). x.sofar) is))
+  where
+    some_is : (one other : Exchange) → Some one ≡ Some other → one ≡ other
+    some_is one other same = cc
+sent_awaits (payload ∷ second ∷ others) kind e a = sent_awaits (second ∷ others) kind e a
+
+-- what is true of a link that rests, and of one that awaits a reply of which nothing came, is true of one that was sent payloads
+pub by_sent : (Holds : LinkState → Type 0) → Holds Rests → ((e : Exchange) → Holds (Awaits e [])) → (payloads : List (List ℕ)) (kind : Kind)
+    → Holds (sent_all payloads kind)
+by_sent Holds rests awaits [] kind = rests
+by_sent Holds rests awaits (payload ∷ []) kind = awaits (record { kind = kind; next = number_behind 0 payload; sofar = [] })
+by_sent Holds rests awaits (payload ∷ second ∷ others) kind = by_sent Holds rests awaits (second ∷ others) kind
 
 -- bytes bring no reply on by themselves
 fed_awaits : (piece : List ℕ) (link : LinkState) → awaited (fed piece link) ≡ awaited link
@@ -152,13 +172,9 @@ sending_came : (past : List Item) (to : ℕ) (purpose : Purpose) → Came past �
 sending_came past to purpose came = λ link e a. by_test link e (to == link) a
   where
     by_test : (link : ℕ) (e : Exchange) (test : Bool)
-        → awaited (if test then sent (sent_for purpose) (Some (kind_of purpose)) else linked link past) ≡ Some e
+        → awaited (if test then sent_all (sent_for purpose) (kind_of purpose) else linked link past) ≡ Some e
         → e.sofar ≡ (if test then [] else came_on link past)
-    by_test link e true a = let none : [] ≡ e.sofar = ap (λ (x : Option Exchange). sofar_of x) a in sym none
-      where
-        sofar_of : Option Exchange → List Payload
-        sofar_of (Some x) = x.sofar
-        sofar_of None = []
+    by_test link e true a = (sent_awaits (sent_for purpose) (kind_of purpose) e a).1
     by_test link e false a = came link e a
 
 due_came : {config : Config} {past : List Item} {item : Item} → Due config past item → Came past → Came (item ∷ past)
@@ -171,6 +187,7 @@ put_came past (Hands packets) came = came
 put_came past (Tells number tell) came = came
 put_came past Routes came = came
 put_came past (Opens link server login) came = λ other e a. came other e (opening_leaves past link server login other e a)
+put_came past (Forgets link id) came = came
 put_came past (LogsInto link packets) came = came
 put_came past (Sends to purpose) came = sending_came past to purpose came
 put_came past (Drops given cause) came = came
@@ -180,8 +197,9 @@ step_came : {config : Config} {past : List Item} {item : Item} → Step config p
 step_came {past = past} (pays {put = put} o) came = put_came past put came
 step_came (asks o n p k l) came = came
 step_came {past = past} (prepares {link = to} o n k c) came = sending_came past to Prepares came
-step_came {past = past} (plays {link = to} {command = command} o n k c s) came = sending_came past to (Plays command) came
-step_came {past = past} (sends {link = to} {command = command} o n p s k c d) came = sending_came past to (Asks command) came
+step_came {past = past} (plays {link = to} {entry = entry} o n k c t s) came = sending_came past to (Plays entry) came
+step_came {past = past} (sends {link = to} {command = command} {id = id} o n p s k c t d i) came = sending_came past to (Asks command id) came
+step_came (forgets o n has f t) came = came
 step_came (floods o n p above) came = came
 step_came (reads o n due) came = due_came due came
 

@@ -1,11 +1,14 @@
 -- In a legal record all that was read and given out has its cause.
-use Rattle.std.proofs.Common.{◌≡◌, ℕ, Bool, true, false, List, [], ◌∷◌, refl, ap, subst, ◌∙◌, inl, inr, Some, None}
-use Rattle.std.specs.Prelude.{◌⊎◌, Contains, slice_get}
+use Rattle.std.proofs.Common.{◌≡◌, ℕ, Bool, true, false, List, [], ◌∷◌, refl, ap, subst, ◌∙◌, inl, inr, Option, Some, None}
+use Rattle.std.specs.Prelude.{◌⊎◌, Contains}
 use Rattle.rws_pool.specs.declared.words.PoolWords.{PoolWords}
 use Rattle.rws_select.specs.declared.selector.Load.{Load}
 use Rattle.rws_route.specs.declared.destination.Target.{Target}
 use Rattle.rws_config.specs.declared.config.Config.{Config}
-use Rattle.rws_record.specs.declared.command.Command.{Command}
+use Rattle.rws_commands.specs.declared.command.Command.{Command}
+use Rattle.rws_commands.specs.declared.history.HistoryEntry.{HistoryEntry}
+use Rattle.rws_commands.specs.Commands.{id_for}
+use Rattle.rws_commands.specs.Statements.{stale_on, unplayed}
 use Rattle.rws_link.specs.declared.step.LinkCause.{LinkCause}
 use Rattle.rws_link.specs.declared.step.LinkCause.TheVariants as losses
 use Rattle.rws_link.specs.declared.step.LinkStep.{LinkStep}
@@ -13,10 +16,10 @@ use Rattle.rws_link.specs.declared.step.LinkStep.TheVariants as said_by
 use Rattle.rws_link.specs.Stepping.{LinkState, is_some_byte}
 use Rattle.rws_record.specs.Item.{Item, Put}
 use Rattle.rws_record.specs.Item.Item.{Accepted, TurnsAway, Began, ClientBytes, LinkReady, LinkBytes, ClientGone, LinkLost, Ticks, Routed, Comes}
-use Rattle.rws_record.specs.Item.Put.{Drops, Sends}
+use Rattle.rws_record.specs.Item.Put.{Drops, Forgets, Sends}
 use Rattle.rws_record.specs.Item.Purpose.{Prepares, Asks, Plays}
-use Rattle.rws_record.specs.Values.{accepted, awaited, cursor, fronted, is_up, links, link_held, linked, goes_on, pending, sent_on, unread, is_over, is_starved}
-use Rattle.rws_record.specs.Rules.{drop_cause, found_in, is_free, next}
+use Rattle.rws_record.specs.Values.{statements, awaited, cursor, fronted, is_up, links, link_held, linked, goes_on, pending, sent_on, unread, is_over, is_starved}
+use Rattle.rws_record.specs.Rules.{drop_cause, found_in, is_free, next, situation}
 use Rattle.rws_record.specs.Record.{IsBeginning, IsRecord, IsInput}
 use Rattle.rws_record.specs.Record.IsRecord.{begins, steps, answers as answered, hears, starves}
 use Rattle.rws_record.specs.Run.{record_of}
@@ -25,7 +28,7 @@ use Rattle.rws_record.proofs.LinkedLemmas.Says.{answers, enters, hurries, fails,
 use Rattle.rws_record.proofs.WantLemmas.{step_starved}
 use Rattle.rws_record.proofs.StepLemmas.{Due, Step, of_next}
 use Rattle.rws_record.proofs.StepLemmas.Due.{comes, connects, takes}
-use Rattle.rws_record.proofs.StepLemmas.Step.{pays, asks, prepares, plays, sends, floods, reads}
+use Rattle.rws_record.proofs.StepLemmas.Step.{pays, asks, prepares, forgets, plays, sends, floods, reads}
 use Rattle.rws_record.proofs.RecordLemmas.{contained, records}
 use Rattle.rws_laws.specs.Causes.{IsCaused, IsBehind, IsRead, AreCaused}
 use Rattle.rws_laws.specs.Client.{IsPending}
@@ -37,7 +40,7 @@ use Rattle.rws_laws.proofs.AskedLemmas.AskedNow.{asked_now}
 use Rattle.rws_laws.proofs.EnteringLemmas.{Entering, IsEntering, is_entering, legal_entering}
 use Rattle.rws_laws.proofs.FrontLemmas.{front_says, said_so, steady, taken_so}
 use Rattle.rws_laws.proofs.HandshakeLemmas.{takes_so}
-use Rattle.rws_laws.proofs.HistoryLemmas.{played_all}
+use Rattle.rws_laws.proofs.CommandLemmas.{judged_silence}
 use Rattle.rws_laws.proofs.PreparedLemmas.{ArePrepared, legal_prepared}
 use Rattle.rws_laws.proofs.LostLemmas.{its_login}
 use Rattle.rws_laws.specs.Laws.{Causes, CausesInRuns}
@@ -53,18 +56,24 @@ is_pending : {config : Config} {past : List Item} {command : Command} → pendin
     → IsPending config command past
 is_pending {command = command} p sound = record { waits = p; asked = (sound.asks command p).asked }
 
-send_caused : {config : Config} {past : List Item} {link : ℕ} {command : Command} → pending past ≡ Some command
-    → sent_on past ≡ None → goes_on config past ≡ Some link → is_free true link past ≡ true → slice_get (accepted past) (cursor link past) ≡ None
-    → IsRecord config past → Sound config past → ArePrepared past → IsCaused config (Sends link (Asks command)) past
-send_caused {config} {past = past} {link = link} {command = command} p s g c d legal sound up =
+send_caused : {config : Config} {past : List Item} {link : ℕ} {command : Command} {id : Option ℕ} → pending past ≡ Some command
+    → sent_on past ≡ None → goes_on config past ≡ Some link → is_free true link past ≡ true → stale_on link (statements config past) ≡ None
+    → unplayed (cursor link past) (statements config past) ≡ None → id_for link command.body (statements config past).table.links ≡ id
+    → Sound config past → ArePrepared past → IsCaused config (Sends link (Asks command id)) past
+send_caused {config} {past = past} {link = link} {command = command} p s g c t d i sound up =
     let free = freed true link past c in
-    let has = contained link (links past) free.0 in
-    (is_pending p sound, s, g, has, free.1, up link free.1, free.2, played_all config past legal link has d)
+    (is_pending p sound, s, g, contained link (links past) free.0, free.1, up link free.1, free.2, d, t, i)
 
-play_caused : (config : Config) (past : List Item) (link : ℕ) (command : Command) → is_free true link past ≡ true
-    → slice_get (accepted past) (cursor link past) ≡ Some command → ArePrepared past → IsCaused config (Sends link (Plays command)) past
-play_caused config past link command c s up =
-    let free = freed true link past c in (contained link (links past) free.0, free.1, up link free.1, free.2, s)
+play_caused : (config : Config) (past : List Item) (link : ℕ) (entry : HistoryEntry) → is_free true link past ≡ true
+    → stale_on link (statements config past) ≡ None → unplayed (cursor link past) (statements config past) ≡ Some entry → ArePrepared past
+    → IsCaused config (Sends link (Plays entry)) past
+play_caused config past link entry c t s up =
+    let free = freed true link past c in (contained link (links past) free.0, free.1, up link free.1, free.2, s, t)
+
+forget_caused : (config : Config) (past : List Item) (link id : ℕ) → is_free true link past ≡ true
+    → stale_on link (statements config past) ≡ Some id → ArePrepared past → IsCaused config (Forgets link id) past
+forget_caused config past link id c t up =
+    let free = freed true link past c in (contained link (links past) free.0, free.1, up link free.1, free.2, t)
 
 prepare_caused : (config : Config) (past : List Item) (link : ℕ) → is_free false link past ≡ true → IsCaused config (Sends link Prepares) past
 prepare_caused config past link c =
@@ -121,7 +130,7 @@ due_read {config} {past} (connects {said = said} p f c) sound entering n below =
     (n, (p, said_so config past said f c (front_says config (fronted config past) (steady config past) entering.going)), below)
 due_read {config} {past} (takes {payload = payload} p f) sound entering n below =
     let its = taken_so config past payload f (front_says config (fronted config past) (steady config past) entering.going) in
-    (n, (payload.bytes, took {past = past} p its.0 its.2), below)
+    (n, (payload.bytes, took {past = past} p its.0 its.2, judged_silence (situation config past) (statements config past) payload.bytes payload.next), below)
 
 input_read : (config : Config) (past : List Item) (item : Item) → IsInput item past → is_over past ≡ false
     → AreCaused config past → AreCaused config (item ∷ past)
@@ -139,9 +148,11 @@ step_caused {config} {past} legal (pays o) sound after entering up below =
     (first_caused (subst (λ (list : List Put). Caused config list past) o sound.owes), below)
 step_caused legal (asks {command = command} o n p g w) sound after entering up below = ((command, is_pending p sound, g, w), below)
 step_caused {config} {past} legal (prepares {link = link} o n has c) sound after entering up below = (prepare_caused config past link c, below)
-step_caused {config} {past} legal (plays {link = link} {command = command} o n has c s) sound after entering up below =
-    (play_caused config past link command c s up, below)
-step_caused legal (sends o n p s g c d) sound after entering up below = (send_caused p s g c d legal sound up, below)
+step_caused {config} {past} legal (plays {link = link} {entry = entry} o n has c t s) sound after entering up below =
+    (play_caused config past link entry c t s up, below)
+step_caused legal (sends o n p s g c t d i) sound after entering up below = (send_caused p s g c t d i sound up, below)
+step_caused {config} {past} legal (forgets {link = link} {id = id} o n has f t) sound after entering up below =
+    (forget_caused config past link id f t up, below)
 step_caused legal (floods o n p above) sound after entering up below = (n, noted p above sound, below)
 step_caused legal (reads o n due) sound after entering up below = due_read due after (is_entering o n entering) n below
 

@@ -14,12 +14,12 @@ use Rattle.rws_front.specs.declared.step.FrontStep.TheVariants as fronts
 use Rattle.rws_front.specs.Connection.{step_of}
 use Rattle.rws_front.specs.Laws.{Moves, greets, asks, accepts, accepts_answer, logs_in, commands, idles, ends, has_ended}
 use Rattle.rws_front.proofs.OrderLemmas.{steps_are_moves}
-use Rattle.rws_record.specs.declared.command.Command.{Command}
-use Rattle.rws_record.specs.declared.proxy_error.ProxyError.{ProxyError}
-use Rattle.rws_record.specs.declared.proxy_error.ProxyError.TheVariants.{UnknownCommand, NotSupported, UnknownStatement, BadExecute, TooManyStatements, NotInReadOnly, TooManyConnections, CommandTooLarge, NoPrimary, OutOfMemory}
+use Rattle.rws_commands.specs.declared.command.Command.{Command}
+use Rattle.rws_commands.specs.declared.proxy_error.ProxyError.{ProxyError}
+use Rattle.rws_commands.specs.declared.proxy_error.ProxyError.TheVariants.{UnknownCommand, NotSupported, UnknownStatement, BadExecute, TooManyStatements, NotInReadOnly, TooManyConnections, CommandTooLarge, NoPrimary, OutOfMemory}
 use Rattle.rws_record.specs.Item.{Item, Put}
 use Rattle.rws_record.specs.Item.Item.{Accepted, TurnsAway, Began, ClientBytes, LinkReady, LinkBytes, ClientGone, LinkLost, Ticks, Routed, Connects, Puts, Starves}
-use Rattle.rws_record.specs.Item.Put.{Hands, Tells, Routes, Opens, LogsInto, Sends, Drops, Closes}
+use Rattle.rws_record.specs.Item.Put.{Hands, Tells, Routes, Opens, LogsInto, Sends, Forgets, Drops, Closes}
 use Rattle.rws_record.specs.Item.Recording.{Nothing, Accepts, Keeps}
 use Rattle.rws_record.specs.Item.Tell.{Passes, Owns, Refuses}
 use Rattle.rws_record.specs.Values.{first_login, fronted, login_by, login_of, pending, is_over}
@@ -29,7 +29,7 @@ use Rattle.rws_record.specs.Record.IsRecord.{begins, steps, answers, hears, star
 use Rattle.rws_record.proofs.OpeningLemmas.{asks_owing_nothing}
 use Rattle.rws_record.proofs.StepLemmas.{Due, Step, of_next, rests_owing_nothing}
 use Rattle.rws_record.proofs.StepLemmas.Due.{comes, connects, takes}
-use Rattle.rws_record.proofs.StepLemmas.Step.{pays, asks as routes, prepares, plays, sends, floods, reads}
+use Rattle.rws_record.proofs.StepLemmas.Step.{pays, asks as routes, prepares, forgets, plays, sends, floods, reads}
 use Rattle.rws_record.proofs.WantLemmas.{closes_behind, closes_soon}
 use Rattle.rws_laws.proofs.FrontLemmas.{is_ended}
 
@@ -195,6 +195,7 @@ put_entering {past = past} (Tells number (Refuses error)) others o e =
 put_entering Routes others o e = paid Routes others o (rw o refl) refl refl (λ c p. p) (λ is. is) e
 put_entering (Opens link server login) others o e =
     paid (Opens link server login) others o (rw o refl) refl refl (λ c p. p) (λ is. is) e
+put_entering (Forgets link id) others o e = paid (Forgets link id) others o (rw o refl) refl refl (λ c p. p) (λ is. is) e
 put_entering (LogsInto link packets) others o e = paid (LogsInto link packets) others o (rw o refl) refl refl (λ c p. p) (λ is. is) e
 put_entering (Sends link purpose) others o (goes goes_on enters waits) = goes goes_on enters waits
 put_entering {config} {past} (Sends link purpose) others o (soon s) =
@@ -210,8 +211,9 @@ step_entering : {config : Config} {past : List Item} {item : Item} → Step conf
 step_entering (pays {put = put} {others = others} o) e = put_entering put others o e
 step_entering {item = item} (routes o n p k l) e = still item o refl refl refl (λ is. is) e
 step_entering {item = item} (prepares o n k c) e = still item o refl refl refl (λ is. is) e
-step_entering {item = item} (plays o n k c s) e = still item o refl refl refl (λ is. is) e
-step_entering {item = item} (sends o n p s k c d) e = still item o refl refl refl (λ is. is) e
+step_entering {item = item} (plays o n k c t s) e = still item o refl refl refl (λ is. is) e
+step_entering {item = item} (sends o n p s k c t d i) e = still item o refl refl refl (λ is. is) e
+step_entering {item = item} (forgets o n has f t) e = still item o refl refl refl (λ is. is) e
 step_entering {item = item} (floods o n p above) e = still item o refl refl refl (λ is. is) e
 step_entering (reads o n due) e = due_entering o n due e
 

@@ -9,7 +9,6 @@ use Rattle.rws_wire.specs.declared.drop_cause.DropCause.TheVariants.{Kept}
 use Rattle.rws_wire.specs.Payloads.Beginning.{Whole}
 use Rattle.rws_native.specs.declared.login.Login.{Login}
 use Rattle.rws_front.specs.declared.phase.Phase.TheVariants.{Commands}
-use Rattle.rws_reply.specs.declared.kind.Outcome.{Outcome}
 use Rattle.rws_reply.specs.declared.kind.Outcome.TheVariants.{Done}
 use Rattle.rws_reply.specs.declared.kind.Progress.{Progress}
 use Rattle.rws_reply.specs.declared.kind.Progress.TheVariants.{More, Whole as Ends}
@@ -17,36 +16,36 @@ use Rattle.rws_reply.specs.Replies.{Payload}
 use Rattle.rws_reply.specs.declared.role.Role.{Role}
 use Rattle.rws_reply.specs.Tracking.{progress, role}
 use Rattle.rws_reply.specs.ClientForm.{client_reply}
-use Rattle.rws_wire.specs.Packets.{number_behind}
 use Rattle.rws_link.specs.declared.step.LinkStep.{LinkStep}
 use Rattle.rws_link.specs.declared.step.LinkStep.TheVariants as steps
-use Rattle.rws_link.specs.Stepping.{Exchange, is_some_byte, opened as opening, sent, with_part}
+use Rattle.rws_link.specs.Stepping.{Exchange, is_some_byte, opened as opening, with_part}
 use Rattle.rws_config.specs.declared.config.Config.{Config}
-use Rattle.rws_record.specs.declared.command.Command.{Command}
-use Rattle.rws_record.specs.declared.proxy_error.ProxyError.{ProxyError}
-use Rattle.rws_record.specs.declared.proxy_error.ProxyError.TheVariants.{UnknownCommand, NotSupported, UnknownStatement, BadExecute, TooManyStatements, NotInReadOnly, TooManyConnections, CommandTooLarge, NoPrimary, OutOfMemory}
-use Rattle.rws_record.specs.declared.request.Request.{Request}
-use Rattle.rws_record.specs.declared.request.Request.TheVariants as requests
-use Rattle.rws_record.specs.Item.{Item, Judged, Purpose, Recording, Tell, Put}
+use Rattle.rws_commands.specs.declared.command.Command.{Command}
+use Rattle.rws_commands.specs.declared.proxy_error.ProxyError.{ProxyError}
+use Rattle.rws_commands.specs.declared.proxy_error.ProxyError.TheVariants.{UnknownCommand, NotSupported, UnknownStatement, BadExecute, TooManyStatements, NotInReadOnly, TooManyConnections, CommandTooLarge, NoPrimary, OutOfMemory}
+use Rattle.rws_commands.specs.declared.judged.Judged.{Judged}
+use Rattle.rws_record.specs.Item.{Ending, Item, Purpose, Recording, Tell, Put}
 use Rattle.rws_record.specs.Item.Item.{LinkReady, Comes, Takes, Puts}
 use Rattle.rws_record.specs.Item.Purpose.{Prepares, Asks, Plays}
-use Rattle.rws_record.specs.Item.Put.{Hands, Tells, Routes, Opens, LogsInto, Sends, Drops, Closes}
+use Rattle.rws_record.specs.Item.Put.{Hands, Tells, Routes, Opens, LogsInto, Sends, Forgets, Drops, Closes}
 use Rattle.rws_record.specs.Item.Recording.{Nothing, Accepts, Keeps}
 use Rattle.rws_record.specs.Item.Tell.{Passes, Owns, Refuses}
-use Rattle.rws_record.specs.Requests.{class_by, request_of}
+use Rattle.rws_commands.specs.declared.history.HistoryEntry.{HistoryEntry}
+use Rattle.rws_commands.specs.Requests.{request_of}
+use Rattle.rws_commands.specs.Statements.{Statements, next_handle}
 use Rattle.rws_class.specs.declared.class.Class.{Class}
 use Rattle.rws_class.specs.declared.class.Class.TheVariants.{Read, PrimaryRead, Write, Session, Begin, BeginReadOnly, Commit, Rollback, AutocommitOn, AutocommitOff, TrxLocal, Ddl, Refused as Forbidden, Other}
-use Rattle.rws_record.specs.Judging.{accepted_as, judged, judged_as, judged_by, refusal_of}
-use Rattle.rws_record.specs.Values.{class_of_command, contains, fronted, goes_on, keeps, kept_by, links, kept_on, asked_on, awaited, exchange, is_up, prepared_by, kind_of, linked, prepared_handle, sent_for, pending, routing, sent_on, reply_number, told, told_from, is_over, unless_link, without, or_link, pinned, transaction}
-use Rattle.rws_record.specs.Rules.{after_keeping, after_loss, after_answer, farewells, follow, is_loss, owed, recording_of, context}
+use Rattle.rws_commands.specs.Judging.{judged}
+use Rattle.rws_commands.specs.Commands.{asked_under, class_of_command, keeps}
+use Rattle.rws_record.specs.Values.{contains, fronted, goes_on, kept_by, links, kept_on, asked_on, awaited, exchange, is_up, prepared_by, kind_of, linked, named_in, named_on, sent_all, sent_for, pending, routing, sent_on, statements, reply_number, told, told_from, is_over, unless_link, without, or_link, pinned, transaction}
+use Rattle.rws_record.specs.Rules.{after_keeping, after_loss, after_answer, farewells, follow, is_loss, owed, recording_of, situation}
 use Rattle.rws_record.proofs.WantLemmas.{closes_soon}
 use Rattle.rws_laws.specs.Client.{Took, begins_with}
 use Rattle.rws_laws.specs.Client.Took.{took}
-use Rattle.rws_laws.specs.Client.Asked.{here}
 use Rattle.rws_laws.specs.Causes.{IsCaused, JustKept}
 use Rattle.rws_laws.specs.Causes.JustKept.{sends, fills, gives_up}
-use Rattle.rws_laws.proofs.CameLemmas.{left_by, no_form}
-use Rattle.rws_laws.proofs.Sound.{Caused, Sent, IsAsked, Asking, passed, AwaitedBy, WaitsBy, WaitsOn, Sound, Telling, TellsOn, not_soon, same_some}
+use Rattle.rws_laws.proofs.CameLemmas.{left_by, no_form, sent_awaits}
+use Rattle.rws_laws.proofs.Sound.{Caused, Sent, handle, passed, AwaitedBy, WaitsBy, WaitsOn, Sound, Telling, TellsOn, not_soon, same_some}
 use Rattle.rws_laws.proofs.Sound.WaitsOn.{prepares, repeats, replies}
 use Rattle.rws_laws.proofs.Sound.Caused.{nothing, drops, leaves, closes, hands, opens, logs_on, tells}
 use Rattle.rws_laws.proofs.Sound.ToldBy.{none_told, all}
@@ -54,12 +53,13 @@ use Rattle.rws_laws.proofs.ListLemmas.{had_before}
 use Rattle.rws_laws.proofs.LinksLemmas.{Dropped, cut_closes, dropped, farewells_caused, others_caused}
 use Rattle.rws_laws.proofs.LinksLemmas.Dropped.{for_fault, at_end, since_kept}
 use Rattle.rws_laws.proofs.ReplyLemmas.{passes_same, still_asked, asks_on, told_part, told_without, unless_other, unsent_told, unsent_waits, told_sent, sent_there, owes_same, drop_passes, farewells_pass, keeping_passes, waits_none, without_sent, without_waits}
-use Rattle.rws_laws.proofs.OwedLemmas.{cut, loss_caused, command_caused, CameNext, said, form, grown, owes_then, reply_caused}
+use Rattle.rws_laws.proofs.CommandLemmas.{asked_now, command_caused, judged_numbered}
+use Rattle.rws_laws.proofs.OwedLemmas.{cut, loss_caused, CameNext, said, form, grown, owes_then, reply_caused}
 
 -- What is given out because it is owed
 
 -- what is left to pass on once a payload was told
-one_passed : (list : List Payload) (owing : List Put) (number link : ℕ) (command : Command) (payload : Payload) (outcome : Option Outcome) (recording : Recording)
+one_passed : (list : List Payload) (owing : List Put) (number link : ℕ) (command : Command) (payload : Payload) (outcome : Option Ending) (recording : Recording)
     (others : List Put) → owing ≡ Tells number (Passes link command payload outcome recording) ∷ others
     → list ++ passed owing ≡ (list ++ payload ∷ []) ++ passed (drop 1 owing)
 one_passed list owing number link command payload outcome recording others o = rw o (sym (append_assoc list (payload ∷ []) (passed others)))
@@ -78,6 +78,7 @@ record IsQuiet (config : Config) (put : Put) (past : List Item) : Type 0 where
   up : (link : ℕ) → is_up link (Puts put ∷ past) ≡ is_up link past
   owes : owed config (Puts put ∷ past) ≡ drop 1 (owed config past)
   links : links (Puts put ∷ past) ≡ links past
+  names : handle config (Puts put ∷ past) ≡ handle config past
 
 -- an error of the proxy's own changes nothing of where the pending command goes
 pub refused_goes : (config : Config) (past : List Item) (number : ℕ) (error : ProxyError)
@@ -95,17 +96,18 @@ refused_goes config past number OutOfMemory = refl
 
 -- and answers it, or leaves it
 refused_leaves : (past : List Item) (number : ℕ) (error : ProxyError)
-    → (error ≡ NoPrimary) ⊎ (pending (Puts (Tells number (Refuses error)) ∷ past) ≡ pending past)
-refused_leaves past number UnknownCommand = inr refl
-refused_leaves past number NotSupported = inr refl
-refused_leaves past number UnknownStatement = inr refl
-refused_leaves past number BadExecute = inr refl
-refused_leaves past number TooManyStatements = inr refl
-refused_leaves past number NotInReadOnly = inr refl
-refused_leaves past number TooManyConnections = inr refl
-refused_leaves past number CommandTooLarge = inr refl
+    → (error ≡ NoPrimary) ⊎ ((pending (Puts (Tells number (Refuses error)) ∷ past) ≡ pending past)
+    × ((config : Config) → statements config (Puts (Tells number (Refuses error)) ∷ past) ≡ statements config past))
+refused_leaves past number UnknownCommand = inr (refl, λ config. refl)
+refused_leaves past number NotSupported = inr (refl, λ config. refl)
+refused_leaves past number UnknownStatement = inr (refl, λ config. refl)
+refused_leaves past number BadExecute = inr (refl, λ config. refl)
+refused_leaves past number TooManyStatements = inr (refl, λ config. refl)
+refused_leaves past number NotInReadOnly = inr (refl, λ config. refl)
+refused_leaves past number TooManyConnections = inr (refl, λ config. refl)
+refused_leaves past number CommandTooLarge = inr (refl, λ config. refl)
 refused_leaves past number NoPrimary = inl refl
-refused_leaves past number OutOfMemory = inr refl
+refused_leaves past number OutOfMemory = inr (refl, λ config. refl)
 
 -- where a session has just been kept, the command went there, if it is still out
 just_sent : {config : Config} (kept : ℕ) {past : List Item} → JustKept config kept past → (sent_on past ≡ Some kept) ⊎ (sent_on past ≡ None)
@@ -184,33 +186,34 @@ module _ (config : Config) (past : List Item) (sound : Sound config past) where
             rw (q.told, q.from, q.sent, q.pending)
             (sound.telling (sym q.over ∙ n) (ap closes_soon o ∙ c ∙ ap closes_soon (sym left) ∙ soon));
         asks = still_asked q.pending q.number q.told sound.asks;
-        waits = λ other e has a. rw (q.pending, q.sent, q.told, q.asked other, q.up other)
+        waits = λ other e has a. rw (q.names, q.pending, q.sent, q.told, q.asked other, q.up other)
             (owes_same (links past) (owed config past) (owed config (Puts put ∷ past)) (ap passed o ∙ p ∙ sym (ap passed left)) sound.waits other e
             (sym (ap (contains other) q.links) ∙ has) (sym (q.exchange other) ∙ a));
         owes = subst (λ (list : List Put). Caused config list (Puts put ∷ past)) (sym left) rest;
       }
 
   -- once the end of the reply was told, only the preamble's or an entry's may be awaited
-  end_waits : (number link : ℕ) (command : Command) (payload : Payload) (outcome : Outcome) (recording : Recording)
-      → IsCaused config (Tells number (Passes link command payload (Some outcome) recording)) past
-      → (list : List Payload) (owes : List Put) (other : ℕ) (e : Exchange) → exchange other past ≡ Some e
-      → WaitsOn other e (asked_on other past) (is_up other past) (pending past) (sent_on past) (told past) (owed config past)
-      → WaitsOn other e (asked_on other past) (is_up other past) None None list owes
-  end_waits number link command payload outcome recording cause list owes other e a (prepares p u) = prepares p u
-  end_waits number link command payload outcome recording cause list owes other e a (repeats p) = repeats p
-  end_waits number link command payload outcome recording cause list owes other e a (replies awaited) =
+  end_waits : (number link : ℕ) (command : Command) (payload : Payload) (ending : Ending) (recording : Recording)
+      → IsCaused config (Tells number (Passes link command payload (Some ending) recording)) past
+      → (at : ℕ) (list : List Payload) (owes : List Put) (other : ℕ) (e : Exchange) → exchange other past ≡ Some e
+      → WaitsOn other e (asked_on other past) (is_up other past) (pending past) (sent_on past) (handle config past) (told past) (owed config past)
+      → WaitsOn other e (asked_on other past) (is_up other past) None None at list owes
+  end_waits number link command payload ending recording cause at list owes other e a (prepares p u) = prepares p u
+  end_waits number link command payload ending recording cause at list owes other e a (repeats p) = repeats p
+  end_waits number link command payload ending recording cause at list owes other e a (replies awaited) =
       let same : link ≡ other = same_some link other (sym cause.0.of_reply.sent ∙ awaited.sent_there) in
       let none : exchange other past ≡ None = rw same at cause.2 in
       absurd cc
 
   part_waits : (number link : ℕ) (command : Command) (payload : Payload) (others : List Put)
       → owed config past ≡ Tells number (Passes link command payload None Nothing) ∷ others
-      → (other : ℕ) (e : Exchange) → WaitsOn other e (asked_on other past) (is_up other past) (pending past) (sent_on past) (told past) (owed config past)
-      → WaitsOn other e (asked_on other past) (is_up other past) (pending past) (sent_on past) (told past ++ payload ∷ []) (drop 1 (owed config past))
+      → (other : ℕ) (e : Exchange) → WaitsOn other e (asked_on other past) (is_up other past) (pending past) (sent_on past) (handle config past) (told past) (owed config past)
+      → WaitsOn other e (asked_on other past) (is_up other past) (pending past) (sent_on past) (handle config past) (told past ++ payload ∷ []) (drop 1 (owed config past))
   part_waits number link command payload others o other e (prepares p u) = prepares p u
   part_waits number link command payload others o other e (repeats p) = repeats p
   part_waits number link command payload others o other e (replies awaited) = replies (record {
     command = awaited.command;
+    id = awaited.id;
     asked_it = awaited.asked_it;
     kind = awaited.kind;
     in_form = awaited.in_form ∙ one_passed (told past) (owed config past) number link command payload None Nothing others o;
@@ -221,11 +224,11 @@ module _ (config : Config) (past : List Item) (sound : Sound config past) where
   tell_sound : (number : ℕ) (tell : Tell) (others : List Put) → owed config past ≡ Tells number tell ∷ others
       → IsCaused config (Tells number tell) past → Caused config (follow config (Tells number tell) past ++ others) (Puts (Tells number tell) ∷ past)
       → Sound config (Puts (Tells number tell) ∷ past)
-  tell_sound number (Passes link command payload (Some outcome) recording) others o cause rest = record {
+  tell_sound number (Passes link command payload (Some ending) recording) others o cause rest = record {
     sent = λ other e. absurd cc;
     telling = λ n soon. all;
     asks = λ other e. absurd cc;
-    waits = λ other e has a. end_waits number link command payload outcome recording cause _ _ other e a (sound.waits other e has a);
+    waits = λ other e has a. end_waits number link command payload ending recording cause _ _ _ other e a (sound.waits other e has a);
     owes = rw o rest;
   }
   tell_sound number (Passes link command payload None Accepts) others o cause rest = absurd cause
@@ -238,7 +241,7 @@ module _ (config : Config) (past : List Item) (sound : Sound config past) where
     owes = rw o rest;
   }
   tell_sound number (Owns status) others o cause rest =
-      quiet_sound (Tells number (Owns status)) others o refl refl (record { goes = refl; over = refl; pending = refl; sent = refl; told = refl; from = refl; number = refl; exchange = λ link. refl; asked = λ link. refl; up = λ link. refl; owes = refl; links = refl }) rest
+      quiet_sound (Tells number (Owns status)) others o refl refl (record { goes = refl; over = refl; pending = refl; sent = refl; told = refl; from = refl; number = refl; exchange = λ link. refl; asked = λ link. refl; up = λ link. refl; owes = refl; links = refl; names = refl }) rest
   tell_sound number (Refuses error) others o cause rest = by_error (refused_leaves past number error)
     where
       answered : IsCaused config (Tells number (Refuses NoPrimary)) past → owed config past ≡ Tells number (Refuses NoPrimary) ∷ others
@@ -251,12 +254,13 @@ module _ (config : Config) (past : List Item) (sound : Sound config past) where
             (sound.telling n (ap closes_soon o ∙ sym (ap (λ (list : List Put). closes_soon (drop 1 list)) o) ∙ soon)));
         asks = λ command e. absurd cc;
         waits = λ other e has a.
-            unsent_waits None (sent_on past) (told past) (owed config (Puts (Tells number (Refuses NoPrimary)) ∷ past)) late.unsent
+            unsent_waits None (sent_on past) (handle config (Puts (Tells number (Refuses NoPrimary)) ∷ past)) (told past) (owed config (Puts (Tells number (Refuses NoPrimary)) ∷ past)) late.unsent
             (sound.waits other e has a);
         owes = rw o rest;
       }
 
-      by_error : (error ≡ NoPrimary) ⊎ (pending (Puts (Tells number (Refuses error)) ∷ past) ≡ pending past)
+      by_error : (error ≡ NoPrimary) ⊎ ((pending (Puts (Tells number (Refuses error)) ∷ past) ≡ pending past)
+          × ((config : Config) → statements config (Puts (Tells number (Refuses error)) ∷ past) ≡ statements config past))
           → Sound config (Puts (Tells number (Refuses error)) ∷ past)
       by_error (inl is) =
           subst (λ (its : ProxyError). Sound config (Puts (Tells number (Refuses its)) ∷ past)) (sym is)
@@ -265,7 +269,7 @@ module _ (config : Config) (past : List Item) (sound : Sound config past) where
           (subst (λ (its : ProxyError). Caused config others (Puts (Tells number (Refuses its)) ∷ past)) is rest))
       by_error (inr left) =
           quiet_sound (Tells number (Refuses error)) others o refl refl
-          (record { goes = refused_goes config past number error; over = refl; pending = left; sent = refl; told = refl; from = refl; number = refl; exchange = λ link. refl; asked = λ link. refl; up = λ link. refl; owes = refl; links = refl }) rest
+          (record { goes = refused_goes config past number error; over = refl; pending = left.0; sent = refl; told = refl; from = refl; number = refl; exchange = λ link. refl; asked = λ link. refl; up = λ link. refl; owes = refl; links = refl; names = ap (λ (s : Statements). next_handle s) (left.1 config) }) rest
 
   -- A link is given up
 
@@ -342,7 +346,7 @@ module _ (config : Config) (past : List Item) (sound : Sound config past) where
           → contains other (without link (links past) ++ link ∷ []) ≡ true
           → awaited (if same then opening login else linked other past) ≡ Some e
           → WaitsOn other e (if same then None else asked_on other past) (if same then false else is_up other past) (pending past) (sent_on past)
-          (told past) (drop 1 (owed config past))
+          (handle config past) (told past) (drop 1 (owed config past))
       by_link other e true t has a = absurd cc
       by_link other e false t has a =
           passes_same (owed config past) (drop 1 (owed config past)) (ap passed o ∙ sym (ap (λ (list : List Put). passed (drop 1 list)) o))
@@ -360,14 +364,25 @@ module _ (config : Config) (past : List Item) (sound : Sound config past) where
   put_sound put others o (closes {reason = reason} cause) = close_sound reason o
   put_sound put others o (opens {link = link} {server = server} {login = login} cause) = open_sound link server login o cause
   put_sound put others o (hands {packets = packets} cause rest) =
-      quiet_sound (Hands packets) others o refl refl (record { goes = refl; over = refl; pending = refl; sent = refl; told = refl; from = refl; number = refl; exchange = λ link. refl; asked = λ link. refl; up = λ link. refl; owes = refl; links = refl }) rest
+      quiet_sound (Hands packets) others o refl refl (record { goes = refl; over = refl; pending = refl; sent = refl; told = refl; from = refl; number = refl; exchange = λ link. refl; asked = λ link. refl; up = λ link. refl; owes = refl; links = refl; names = refl }) rest
   put_sound put others o (logs_on {link = link} {packets = packets} cause) =
-      quiet_sound (LogsInto link packets) [] o refl refl (record { goes = refl; over = refl; pending = refl; sent = refl; told = refl; from = refl; number = refl; exchange = λ link. refl; asked = λ link. refl; up = λ link. refl; owes = refl; links = refl }) nothing
+      quiet_sound (LogsInto link packets) [] o refl refl (record { goes = refl; over = refl; pending = refl; sent = refl; told = refl; from = refl; number = refl; exchange = λ link. refl; asked = λ link. refl; up = λ link. refl; owes = refl; links = refl; names = refl }) nothing
 
   -- The worker is asked
 
   pub routes_sound : owed config past ≡ [] → Sound config (Puts Routes ∷ past)
   routes_sound o = record {
+    sent = sound.sent;
+    telling = λ n soon. sound.telling n (not_soon o);
+    asks = still_asked refl refl refl sound.asks;
+    waits = owes_same (links past) (owed config past) (drop 1 (owed config past)) (ap passed o ∙ sym (ap (λ (list : List Put). passed (drop 1 list)) o)) sound.waits;
+    owes = rw o nothing;
+  }
+
+  -- A link's server is told to close a statement
+
+  pub forgets_sound : (link id : ℕ) → owed config past ≡ [] → Sound config (Puts (Forgets link id) ∷ past)
+  forgets_sound link id o = record {
     sent = sound.sent;
     telling = λ n soon. sound.telling n (not_soon o);
     asks = still_asked refl refl refl sound.asks;
@@ -387,8 +402,8 @@ module _ (config : Config) (past : List Item) (sound : Sound config past) where
   }
     where
       by_link : (other : ℕ) (e : Exchange) (same : Bool) → (link == other) ≡ same → contains other (links past) ≡ true
-          → awaited (if same then sent (sent_for Prepares) (Some (kind_of Prepares)) else linked other past) ≡ Some e
-          → WaitsOn other e (if same then Some Prepares else asked_on other past) (is_up other past) (pending past) (sent_on past) (told past)
+          → awaited (if same then sent_all (sent_for Prepares) (kind_of Prepares) else linked other past) ≡ Some e
+          → WaitsOn other e (if same then Some Prepares else asked_on other past) (is_up other past) (pending past) (sent_on past) (handle config past) (told past)
           (owed config (Puts (Sends link Prepares) ∷ past))
       by_link other e true t has a = prepares refl (subst (λ (l : ℕ). is_up l past ≡ false) (eqb-true link other t) up)
       by_link other e false t has a =
@@ -397,8 +412,8 @@ module _ (config : Config) (past : List Item) (sound : Sound config past) where
 
   -- An entry of the history is played
 
-  pub plays_sound : (link : ℕ) (command : Command) → owed config past ≡ [] → Sound config (Puts (Sends link (Plays command)) ∷ past)
-  plays_sound link command o = record {
+  pub plays_sound : (link : ℕ) (entry : HistoryEntry) → owed config past ≡ [] → Sound config (Puts (Sends link (Plays entry)) ∷ past)
+  plays_sound link entry o = record {
     sent = sound.sent;
     telling = λ n soon. sound.telling n (not_soon o);
     asks = still_asked refl refl refl sound.asks;
@@ -407,9 +422,9 @@ module _ (config : Config) (past : List Item) (sound : Sound config past) where
   }
     where
       by_link : (other : ℕ) (e : Exchange) (same : Bool) → (link == other) ≡ same → contains other (links past) ≡ true
-          → awaited (if same then sent (sent_for (Plays command)) (Some (kind_of (Plays command))) else linked other past) ≡ Some e
-          → WaitsOn other e (if same then Some (Plays command) else asked_on other past) (is_up other past) (pending past) (sent_on past) (told past)
-          (owed config (Puts (Sends link (Plays command)) ∷ past))
+          → awaited (if same then sent_all (sent_for (Plays entry)) (kind_of (Plays entry)) else linked other past) ≡ Some e
+          → WaitsOn other e (if same then Some (Plays entry) else asked_on other past) (is_up other past) (pending past) (sent_on past) (handle config past) (told past)
+          (owed config (Puts (Sends link (Plays entry)) ∷ past))
       by_link other e true t has a = repeats refl
       by_link other e false t has a =
           passes_same (owed config past) (drop 1 (owed config past)) (ap passed o ∙ sym (ap (λ (list : List Put). passed (drop 1 list)) o))
@@ -417,53 +432,54 @@ module _ (config : Config) (past : List Item) (sound : Sound config past) where
 
   -- The pending command is sent
 
-  module _ (link : ℕ) (command : Command) (o : owed config past ≡ []) (n : is_over past ≡ false) (p : pending past ≡ Some command) (s : sent_on past ≡ None) where
+  module _ (link : ℕ) (command : Command) (id : Option ℕ) (o : owed config past ≡ []) (n : is_over past ≡ false) (p : pending past ≡ Some command) (s : sent_on past ≡ None) where
     telling_now : Telling past
     telling_now = sound.telling n (not_soon o)
 
     -- what follows passes nothing
-    sending_passes : passed (owed config (Puts (Sends link (Asks command)) ∷ past)) ≡ []
+    sending_passes : passed (owed config (Puts (Sends link (Asks command id)) ∷ past)) ≡ []
     sending_passes = rw o
         (ap passed (append-nil (after_keeping (keeps (class_of_command command)) link (kept_on past) (links past)))
         ∙ keeping_passes (keeps (class_of_command command)) link (kept_on past) (links past))
 
     now_awaited : (other : ℕ) (e : Exchange) (same : Bool) → (link == other) ≡ same → contains other (links past) ≡ true
-        → awaited (if same then sent (sent_for (Asks command)) (Some (kind_of (Asks command))) else linked other past) ≡ Some e
-        → WaitsOn other e (if same then Some (Asks command) else asked_on other past) (is_up other past) (pending past) (Some link) (told past)
-        (owed config (Puts (Sends link (Asks command)) ∷ past))
+        → awaited (if same then sent_all (sent_for (Asks command id)) (kind_of (Asks command id)) else linked other past) ≡ Some e
+        → WaitsOn other e (if same then Some (Asks command id) else asked_on other past) (is_up other past) (pending past) (Some link) (handle config past) (told past)
+        (owed config (Puts (Sends link (Asks command id)) ∷ past))
     now_awaited other e true t has a =
-        let is : record { kind = command.kind; next = number_behind 0 command.payload; sofar = [] } ≡ e = same_some _ e a in
+        let its = sent_awaits (asked_under id command.body) command.kind e a in
         replies (record {
           command = command;
+          id = id;
           asked_it = refl;
-          kind = sym (ap (λ (x : Exchange). x.kind) is);
-          in_form = subst (λ (x : Exchange). client_reply command.kind prepared_handle x.sofar ≡ told past ++ passed (owed config (Puts (Sends link (Asks command)) ∷ past))) is
-              (rw (sending_passes, (unsent_told command s p telling_now).0) (no_form command.kind));
+          kind = its.0;
+          in_form = subst (λ (list : List Payload). client_reply command.kind (handle config past) list ≡ told past ++ passed (owed config (Puts (Sends link (Asks command id)) ∷ past))) (sym its.1)
+              (rw (sending_passes, (unsent_told command s p telling_now).0) (no_form command.kind (handle config past)));
           waits = p;
           sent_there = ap Some (eqb-true link other t);
         })
     now_awaited other e false t has a = only_prepares (sound.waits other e has a)
       where
-        only_prepares : WaitsOn other e (asked_on other past) (is_up other past) (pending past) (sent_on past) (told past) (owed config past)
-            → WaitsOn other e (asked_on other past) (is_up other past) (pending past) (Some link) (told past)
-            (owed config (Puts (Sends link (Asks command)) ∷ past))
+        only_prepares : WaitsOn other e (asked_on other past) (is_up other past) (pending past) (sent_on past) (handle config past) (told past) (owed config past)
+            → WaitsOn other e (asked_on other past) (is_up other past) (pending past) (Some link) (handle config past) (told past)
+            (owed config (Puts (Sends link (Asks command id)) ∷ past))
         only_prepares (prepares p u) = prepares p u
         only_prepares (repeats p) = repeats p
         only_prepares (replies awaits) = let there = awaits.sent_there in absurd cc
 
     -- the session is kept on the link, or isn't
     keeping_owes : (keeping : Bool) (kept : Option ℕ) → keeps (class_of_command command) ≡ keeping → kept_on past ≡ kept
-        → Caused config (after_keeping keeping link kept (links past) ++ []) (Puts (Sends link (Asks command)) ∷ past)
+        → Caused config (after_keeping keeping link kept (links past) ++ []) (Puts (Sends link (Asks command id)) ∷ past)
     keeping_owes true None c k =
-        others_caused config past (Puts (Sends link (Asks command)) ∷ past) link [] refl (sends (keeps_is (class_of_command command) c) k)
+        others_caused config past (Puts (Sends link (Asks command id)) ∷ past) link [] refl (sends (keeps_is (class_of_command command) c) k)
         (record { stands = nothing; later = λ other below apart its. nothing })
     keeping_owes true (Some kept) c k = nothing
     keeping_owes false kept c k = nothing
 
     pub send_sound : goes_on config past ≡ Some link → is_up link past ≡ true → contains link (links past) ≡ true
-        → Sound config (Puts (Sends link (Asks command)) ∷ past)
+        → Sound config (Puts (Sends link (Asks command id)) ∷ past)
     send_sound goes up has = record {
-      sent = sent_there (λ l. is_up l past) command (pending past) link (goes_on config (Puts (Sends link (Asks command)) ∷ past)) (links past) p
+      sent = sent_there (λ l. is_up l past) command (pending past) link (goes_on config (Puts (Sends link (Asks command id)) ∷ past)) (links past) p
           (goes_then (class_of_command command) link (kept_on past) (transaction config past).link (routing config past).assigned goes) up has;
       telling = λ n soon. told_sent (told past) (told_from past) (Some link) (pending past) (unsent_told command s p telling_now);
       asks = still_asked refl refl refl sound.asks;
@@ -474,67 +490,44 @@ module _ (config : Config) (past : List Item) (sound : Sound config past) where
   -- The client's next command is taken up
 
   module _ (payload rest : Payload) (number : ℕ) (p : pending past ≡ None) (c : (fronted config past).phase ≡ Commands) where
-    abbrev it : Request → Judged
-    it request = judged_as (context config past) request (class_by request payload) payload number
-
-    took_it : (request : Request) → request_of payload ≡ request
-        → begins_with config (fronted config past) 0 ≡ Whole payload number rest
-        → Took config payload number (Takes (it request) number ∷ past)
-    took_it request r f = subst (λ (its : Judged). Took config payload number (Takes its number ∷ past)) (ap it r) (took {past = past} {rest = rest} p c f)
-
-    -- it is refused, or it goes to a server
-    now_asked : (refusal : Option ProxyError) (request : Request)
-        → Took config payload number (Takes (judged_by refusal request payload number) number ∷ past)
-        → Asking config (Takes (judged_by refusal request payload number) number ∷ past)
-    now_asked (Some error) request taken = λ command e. absurd cc
-    now_asked None requests.Query taken = λ command e.
-        subst (λ (its : Command). IsAsked config its (Takes (accepted_as requests.Query payload number) number ∷ past)) (same_some _ command e)
-        (record { asked = here taken; counts = refl })
-    now_asked None requests.FieldList taken = λ command e.
-        subst (λ (its : Command). IsAsked config its (Takes (accepted_as requests.FieldList payload number) number ∷ past)) (same_some _ command e)
-        (record { asked = here taken; counts = refl })
-    now_asked None requests.InitDb taken = λ command e.
-        subst (λ (its : Command). IsAsked config its (Takes (accepted_as requests.InitDb payload number) number ∷ past)) (same_some _ command e)
-        (record { asked = here taken; counts = refl })
-    now_asked None requests.Quit taken = λ command e. absurd cc
-    now_asked None requests.Ping taken = λ command e. absurd cc
-    now_asked None requests.Unsupported taken = λ command e. absurd cc
-    now_asked None requests.Unknown taken = λ command e. absurd cc
+    abbrev it : Judged
+    it = judged (situation config past) (statements config past) payload number
 
     pub take_sound : begins_with config (fronted config past) 0 ≡ Whole payload number rest
-        → Sound config (Takes (judged (context config past) payload number) number ∷ past)
-    take_sound f = record {
-      sent = λ other e. absurd cc;
-      telling = λ n soon. none_told;
-      asks = now_asked (refusal_of (context config past) (request_of payload) (class_by (request_of payload) payload)) (request_of payload)
-          (took_it (request_of payload) refl f);
-      waits = waits_none (links past) (pending (Takes (judged (context config past) payload number) number ∷ past)) None []
-          (owed config (Takes (judged (context config past) payload number) number ∷ past)) p sound.waits;
-      owes = command_caused config payload number past (judged (context config past) payload number) (request_of payload) refl (took {past = past} {rest = rest} p c f);
-    }
+        → Sound config (Takes it number ∷ past)
+    take_sound f =
+        let taken : Took config payload number (Takes it number ∷ past) = took {past = past} {rest = rest} p c f in
+        record {
+          sent = λ other e. absurd cc;
+          telling = λ n soon. none_told;
+          asks = asked_now config payload past number it p (judged_numbered (situation config past) (statements config past) payload number) taken;
+          waits = waits_none (links past) (pending (Takes it number ∷ past)) None (handle config (Takes it number ∷ past)) []
+              (owed config (Takes it number ∷ past)) p sound.waits;
+          owes = command_caused config payload number past it (request_of payload) refl taken;
+        }
 
   -- A payload of an awaited reply
 
   -- what the client was told where nothing is owed to it
   pub clean : owed config past ≡ [] → (e : Exchange) (its : Command)
-      → client_reply its.kind prepared_handle e.sofar ≡ told past ++ passed (owed config past)
-      → client_reply its.kind prepared_handle e.sofar ≡ told past
+      → client_reply its.kind (handle config past) e.sofar ≡ told past ++ passed (owed config past)
+      → client_reply its.kind (handle config past) e.sofar ≡ told past
   clean o e its formed =
       formed ∙ ap (λ (list : List Put). told past ++ passed list) o ∙ append-nil (told past)
 
   module _ (link : ℕ) (e : Exchange) (command : Command) (payload rest : Payload) (number : ℕ) (o : owed config past ≡ [])
       (next : CameNext config past link e command payload rest number) where
     -- what is awaited once the link said something
-    then_awaited : (said : LinkStep) (owes : List Put)
+    then_awaited : (said : LinkStep) (at : ℕ) (owes : List Put)
         → ((other : ℕ) (x : Exchange) → link ≡ other → exchange link (Comes link said ∷ past) ≡ Some x
-        → AwaitedBy other x (asked_on link past) (pending past) (sent_on past) (told past) owes)
+        → AwaitedBy other x (asked_on link past) (pending past) (sent_on past) at (told past) owes)
         → WaitsBy (links past) (λ other. exchange other (Comes link said ∷ past)) (λ other. asked_on other past) (λ other. is_up other (Comes link said ∷ past))
-        (pending past) (sent_on past) (told past) owes
-    then_awaited said owes mine = λ other x has a. by_link other x (link == other) refl has a
+        (pending past) (sent_on past) at (told past) owes
+    then_awaited said at owes mine = λ other x has a. by_link other x (link == other) refl has a
       where
         only_prepares : (other : ℕ) (x : Exchange) → (link == other) ≡ false
-            → WaitsOn other x (asked_on other past) (is_up other past) (pending past) (sent_on past) (told past) (owed config past)
-            → WaitsOn other x (asked_on other past) (is_up other past) (pending past) (sent_on past) (told past) owes
+            → WaitsOn other x (asked_on other past) (is_up other past) (pending past) (sent_on past) (handle config past) (told past) (owed config past)
+            → WaitsOn other x (asked_on other past) (is_up other past) (pending past) (sent_on past) at (told past) owes
         only_prepares other x t (prepares p u) = prepares p u
         only_prepares other x t (repeats p) = repeats p
         only_prepares other x t (replies awaits) =
@@ -542,10 +535,10 @@ module _ (config : Config) (past : List Item) (sound : Sound config past) where
             let yes : (link == other) ≡ true = eq-eqb link other same in absurd cc
 
         by_link : (other : ℕ) (x : Exchange) (same : Bool) → (link == other) ≡ same → contains other (links past) ≡ true → exchange other (Comes link said ∷ past) ≡ Some x
-            → WaitsOn other x (asked_on other past) (is_up other (Comes link said ∷ past)) (pending past) (sent_on past) (told past) owes
+            → WaitsOn other x (asked_on other past) (is_up other (Comes link said ∷ past)) (pending past) (sent_on past) at (told past) owes
         by_link other x true t has a =
             let same : link ≡ other = eqb-true link other t in
-            replies (subst (λ (l : ℕ). AwaitedBy other x (asked_on l past) (pending past) (sent_on past) (told past) owes) same
+            replies (subst (λ (l : ℕ). AwaitedBy other x (asked_on l past) (pending past) (sent_on past) at (told past) owes) same
             (mine other x same (subst (λ (l : ℕ). exchange l (Comes link said ∷ past) ≡ Some x) (sym same) a)))
         by_link other x false t has a =
             let a : exchange other past ≡ Some x = rw t at a in
@@ -560,18 +553,22 @@ module _ (config : Config) (past : List Item) (sound : Sound config past) where
       its_form = form config past link e command payload rest number next its far r p
 
       abbrev answer : Progress → List Put
-      answer far = after_answer link command its_form far (is_some_byte rest) (reply_number past) (λ outcome. recording_of config past outcome)
+      answer far = after_answer link command its_form (named_in its payload (named_on link past)) far (is_some_byte rest) (reply_number past) (λ outcome. recording_of config link past outcome)
+
+      abbrev said_so : Progress → LinkStep
+      said_so its_far = steps.Part payload its its_far number (is_some_byte rest)
 
       goes_awaited : (its_far : Progress) (other : ℕ) (x : Exchange) → link ≡ other
           → left_by its_far (with_part payload number e) ≡ Some x
-          → AwaitedBy other x (asked_on link past) (pending past) (sent_on past) (told past) (answer its_far)
+          → AwaitedBy other x (asked_on link past) (pending past) (sent_on past) (handle config (Comes link (said_so its_far) ∷ past)) (told past) (answer its_far)
       goes_awaited More other x same g =
           let is : with_part payload number e ≡ x = same_some _ x g in
           record {
             command = command;
+            id = next.id;
             asked_it = next.asked_it;
             kind = sym (ap (λ (y : Exchange). y.kind) is) ∙ next.kind;
-            in_form = subst (λ (y : Exchange). client_reply command.kind prepared_handle y.sofar ≡ told past ++ its_form ∷ []) is
+            in_form = subst (λ (y : Exchange). client_reply command.kind (handle config past) y.sofar ≡ told past ++ its_form ∷ []) is
                 (grown config past link e command payload rest number next its far r p);
             waits = next.pending;
             sent_there = next.sent ∙ ap Some same;
@@ -585,9 +582,9 @@ module _ (config : Config) (past : List Item) (sound : Sound config past) where
             sent = coming_sent config past link its_said sound.sent;
             telling = λ n soon. sound.telling n (not_soon o);
             asks = still_asked refl refl refl sound.asks;
-            waits = subst (λ (list : List Put). WaitsBy (links past) (λ other. exchange other (Comes link its_said ∷ past)) (λ other. asked_on other past) (λ other. is_up other (Comes link its_said ∷ past)) (pending past) (sent_on past) (told past) list)
+            waits = subst (λ (list : List Put). WaitsBy (links past) (λ other. exchange other (Comes link its_said ∷ past)) (λ other. asked_on other past) (λ other. is_up other (Comes link its_said ∷ past)) (pending past) (sent_on past) (handle config (Comes link its_said ∷ past)) (told past) list)
                 (sym owed_now)
-                (then_awaited its_said (answer far)
+                (then_awaited its_said (handle config (Comes link its_said ∷ past)) (answer far)
                 (λ other x same a. goes_awaited far other x same (sym (owes_then config past link e command payload rest number next its far r p) ∙ a)));
             owes = subst (λ (list : List Put). Caused config list (Comes link its_said ∷ past)) (sym owed_now)
                 (reply_caused config past link e command payload rest number next its far r p);

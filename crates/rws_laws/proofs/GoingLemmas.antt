@@ -16,16 +16,17 @@ use Rattle.rws_route.specs.declared.destination.Target.TheVariants.{Primary, Rep
 use Rattle.rws_routing.specs.declared.routing.Routing.{Routing}
 use Rattle.rws_routing.specs.Routings.{is_at, lost, tried_by}
 use Rattle.rws_config.specs.declared.config.Config.{Config}
-use Rattle.rws_record.specs.declared.command.Command.{Command}
-use Rattle.rws_record.specs.declared.proxy_error.ProxyError.{ProxyError}
-use Rattle.rws_record.specs.declared.proxy_error.ProxyError.TheVariants.{UnknownCommand, NotSupported, UnknownStatement, BadExecute, TooManyStatements, NotInReadOnly, TooManyConnections, CommandTooLarge, NoPrimary, OutOfMemory}
-use Rattle.rws_record.specs.Item.{Item, Purpose, Put, Recording}
+use Rattle.rws_commands.specs.declared.command.Command.{Command}
+use Rattle.rws_commands.specs.declared.proxy_error.ProxyError.{ProxyError}
+use Rattle.rws_commands.specs.declared.proxy_error.ProxyError.TheVariants.{UnknownCommand, NotSupported, UnknownStatement, BadExecute, TooManyStatements, NotInReadOnly, TooManyConnections, CommandTooLarge, NoPrimary, OutOfMemory}
+use Rattle.rws_record.specs.Item.{Ending, Item, Purpose, Put, Recording}
 use Rattle.rws_record.specs.Item.Item.{Accepted, TurnsAway, Began, ClientBytes, LinkReady, LinkBytes, ClientGone, LinkLost, Ticks, Routed, Puts, Starves}
 use Rattle.rws_record.specs.Item.Purpose.{Prepares, Asks, Plays}
-use Rattle.rws_record.specs.Item.Put.{Hands, Tells, Routes, Opens, LogsInto, Sends, Drops, Closes}
+use Rattle.rws_record.specs.Item.Put.{Hands, Tells, Routes, Opens, LogsInto, Sends, Forgets, Drops, Closes}
 use Rattle.rws_record.specs.Item.Recording.{Nothing, Accepts, Keeps}
 use Rattle.rws_record.specs.Item.Tell.{Passes, Owns, Refuses}
-use Rattle.rws_record.specs.Values.{class_of_command, contains, first_to, keeps, kept_by, kept_on, link_to, links, login_of, routing, server_of, is_over, without, answer_to, answered_by, answered_if, class_by_pending, or_link, pinned, speaks, transaction, pending}
+use Rattle.rws_commands.specs.Commands.{class_of_command, keeps}
+use Rattle.rws_record.specs.Values.{contains, first_to, kept_by, kept_on, link_to, links, login_of, routing, server_of, is_over, without, answer_to, answered_by, answered_if, class_by_pending, or_link, pinned, speaks, transaction, pending}
 use Rattle.rws_record.specs.Rules.{after_loss, follow, found_in, is_link, owed}
 use Rattle.rws_record.specs.Record.{IsBeginning, IsInput, IsRecord}
 use Rattle.rws_record.specs.Record.IsRecord.{begins, steps, answers, hears, starves}
@@ -33,7 +34,7 @@ use Rattle.rws_record.proofs.RecordLemmas.{contained}
 use Rattle.rws_record.proofs.OpeningLemmas.{asks_owing_nothing}
 use Rattle.rws_record.proofs.StepLemmas.{Due, Step, of_next, rests_owing_nothing}
 use Rattle.rws_record.proofs.StepLemmas.Due.{comes, connects, takes}
-use Rattle.rws_record.proofs.StepLemmas.Step.{pays, asks, prepares, plays, sends, floods, reads}
+use Rattle.rws_record.proofs.StepLemmas.Step.{pays, asks, prepares, forgets, plays, sends, floods, reads}
 use Rattle.rws_record.proofs.WantLemmas.{closes_behind, closes_soon}
 use Rattle.rws_laws.specs.Causes.{AreCaused, IsAt, IsCaused, IsOpening, JustKept, found_last}
 use Rattle.rws_laws.specs.Causes.IsAt.{primary, replica}
@@ -106,6 +107,7 @@ closes_before (Hands packets ∷ rest) others s = closes_before rest others s
 closes_before (Tells number tell ∷ rest) others s = closes_before rest others s
 closes_before (Routes ∷ rest) others s = closes_before rest others s
 closes_before (Opens link server login ∷ rest) others s = closes_before rest others s
+closes_before (Forgets link id ∷ rest) others s = closes_before rest others s
 closes_before (LogsInto link packets ∷ rest) others s = closes_before rest others s
 closes_before (Sends link purpose ∷ rest) others s = closes_before rest others s
 closes_before (Drops link cause ∷ rest) others s = closes_before rest others s
@@ -239,9 +241,9 @@ just_kept {config} kept just = its just
     its (gives_up just) = its just
 
 -- a command is sent on a link that the session has
-sent_going : (config : Config) (past : List Item) (link : ℕ) (command : Command) → contains link (links past) ≡ true → HasPinned config past
-    → HasPinned config (Puts (Sends link (Asks command)) ∷ past)
-sent_going config past link command here kept = λ other k. by_kept other (kept_on past) refl k
+sent_going : (config : Config) (past : List Item) (link : ℕ) (command : Command) (id : Option ℕ) → contains link (links past) ≡ true → HasPinned config past
+    → HasPinned config (Puts (Sends link (Asks command id)) ∷ past)
+sent_going config past link command id here kept = λ other k. by_kept other (kept_on past) refl k
   where
     by_test : (other : ℕ) (test : Bool) → kept_on past ≡ None
         → or_link (if test then Some link else None) (transaction config past).link ≡ Some other
@@ -265,11 +267,11 @@ passed_pinned config past link outcome here kept at e =
     (kept_on past) refl e
   where
     by_kept : (its : Bool) (before : Option ℕ) → kept_on past ≡ before
-        → or_link before (answered_if its (answer_to (pending past) link outcome) (transaction config past)).link ≡ Some at
+        → or_link before (answered_if its (answer_to (pending past) link outcome (transaction config past).state) (transaction config past)).link ≡ Some at
         → contains at (links past) ≡ true
     by_kept its (Some other) b e = kept at (ap (λ (on : Option ℕ). or_link on (transaction config past).link) b ∙ e)
     by_kept its None b e =
-        elim (answered_there its (answer_to (pending past) link outcome) (transaction config past) at e) [
+        elim (answered_there its (answer_to (pending past) link outcome (transaction config past).state) (transaction config past) at e) [
           | inl there ↦ kept at (ap (λ (on : Option ℕ). or_link on (transaction config past).link) b ∙ there)
           | inr same ↦ ap (λ (l : ℕ). contains l (links past)) (sym same) ∙ here
         ]
@@ -320,50 +322,51 @@ module _ (config : Config) (past : List Item) where
   send_going : (link : ℕ) (purpose : Purpose) (others : List Put) → owed config past ≡ Sends link purpose ∷ others
       → IsCaused config (Sends link purpose) past → Going config past → Going config (Puts (Sends link purpose) ∷ past)
   send_going link Prepares others o cause going = paid config past (Sends link Prepares) others o refl refl refl refl (λ link. refl) refl refl refl going
-  send_going link (Plays command) others o cause going = paid config past (Sends link (Plays command)) others o refl refl refl refl (λ link. refl) refl refl refl going
-  send_going link (Asks command) others o cause (soon s) = soon (paid_soon config past (Sends link (Asks command)) others o refl refl s)
-  send_going link (Asks command) others o cause (over is) = over is
-  send_going link (Asks command) others o cause (stands kept assigned) =
-      stands (sent_going config past link command (has_it (links past) link cause.3) kept)
-      (assigned_paid config past (Sends link (Asks command)) others o refl refl refl (λ at. refl) assigned)
+  send_going link (Plays entry) others o cause going = paid config past (Sends link (Plays entry)) others o refl refl refl refl (λ link. refl) refl refl refl going
+  send_going link (Asks command id) others o cause (soon s) = soon (paid_soon config past (Sends link (Asks command id)) others o refl refl s)
+  send_going link (Asks command id) others o cause (over is) = over is
+  send_going link (Asks command id) others o cause (stands kept assigned) =
+      stands (sent_going config past link command id (has_it (links past) link cause.3) kept)
+      (assigned_paid config past (Sends link (Asks command id)) others o refl refl refl (λ at. refl) assigned)
 
-  keep_going : (number link : ℕ) (command : Command) (payload : Payload) (outcome : Outcome) (others : List Put)
-      → owed config past ≡ Tells number (Passes link command payload (Some outcome) Keeps) ∷ others → contains link (links past) ≡ true
-      → Going config past → Going config (Puts (Tells number (Passes link command payload (Some outcome) Keeps)) ∷ past)
-  keep_going number link command payload outcome others o here (soon s) =
-      soon (paid_soon config past (Tells number (Passes link command payload (Some outcome) Keeps)) others o refl refl s)
-  keep_going number link command payload outcome others o here (over is) = over is
-  keep_going number link command payload outcome others o here (stands kept assigned) =
+  keep_going : (number link : ℕ) (command : Command) (payload : Payload) (its : Ending) (others : List Put)
+      → owed config past ≡ Tells number (Passes link command payload (Some its) Keeps) ∷ others → contains link (links past) ≡ true
+      → Going config past → Going config (Puts (Tells number (Passes link command payload (Some its) Keeps)) ∷ past)
+  keep_going number link command payload its others o here (soon s) =
+      soon (paid_soon config past (Tells number (Passes link command payload (Some its) Keeps)) others o refl refl s)
+  keep_going number link command payload its others o here (over is) = over is
+  keep_going number link command payload its others o here (stands kept assigned) =
       stands (λ at k. ap (λ (l : ℕ). contains l (links past)) (sym (same_some link at k)) ∙ here)
-      (assigned_paid config past (Tells number (Passes link command payload (Some outcome) Keeps)) others o refl refl refl (λ at. refl) assigned)
+      (assigned_paid config past (Tells number (Passes link command payload (Some its) Keeps)) others o refl refl refl (λ at. refl) assigned)
 
-  pass_going : (number link : ℕ) (command : Command) (payload : Payload) (outcome : Outcome) (recording : Recording) (others : List Put)
-      → owed config past ≡ Tells number (Passes link command payload (Some outcome) recording) ∷ others → contains link (links past) ≡ true
-      → kept_on (Puts (Tells number (Passes link command payload (Some outcome) recording)) ∷ past) ≡ kept_on past
-      → Going config past → Going config (Puts (Tells number (Passes link command payload (Some outcome) recording)) ∷ past)
-  pass_going number link command payload outcome recording others o here same (soon s) =
-      soon (paid_soon config past (Tells number (Passes link command payload (Some outcome) recording)) others o refl refl s)
-  pass_going number link command payload outcome recording others o here same (over is) = over is
-  pass_going number link command payload outcome recording others o here same (stands kept assigned) =
-      stands (λ at k. passed_pinned config past link outcome here kept at
-      (sym (ap (λ (on : Option ℕ). or_link on (answered_by (kept_on past) (pending past) link outcome (routing config past) (transaction config past)).link) same) ∙ k))
-      (assigned_paid config past (Tells number (Passes link command payload (Some outcome) recording)) others o refl refl refl (λ at. refl) assigned)
+  pass_going : (number link : ℕ) (command : Command) (payload : Payload) (its : Ending) (recording : Recording) (others : List Put)
+      → owed config past ≡ Tells number (Passes link command payload (Some its) recording) ∷ others → contains link (links past) ≡ true
+      → kept_on (Puts (Tells number (Passes link command payload (Some its) recording)) ∷ past) ≡ kept_on past
+      → Going config past → Going config (Puts (Tells number (Passes link command payload (Some its) recording)) ∷ past)
+  pass_going number link command payload its recording others o here same (soon s) =
+      soon (paid_soon config past (Tells number (Passes link command payload (Some its) recording)) others o refl refl s)
+  pass_going number link command payload its recording others o here same (over is) = over is
+  pass_going number link command payload its recording others o here same (stands kept assigned) =
+      stands (λ at k. passed_pinned config past link its.outcome here kept at
+      (sym (ap (λ (on : Option ℕ). or_link on (answered_by (kept_on past) (pending past) link its.outcome (routing config past) (transaction config past)).link) same) ∙ k))
+      (assigned_paid config past (Tells number (Passes link command payload (Some its) recording)) others o refl refl refl (λ at. refl) assigned)
 
   put_going : (put : Put) (others : List Put) → owed config past ≡ put ∷ others → IsCaused config put past → Going config past
       → Going config (Puts put ∷ past)
   put_going (Hands packets) others o cause going = paid config past (Hands packets) others o refl refl refl refl (λ link. refl) refl refl refl going
-  put_going (Tells number (Passes link command payload (Some outcome) Keeps)) others o cause going =
-      keep_going number link command payload outcome others o (has_it (links past) link cause.0.has) going
-  put_going (Tells number (Passes link command payload (Some outcome) Accepts)) others o cause going =
-      pass_going number link command payload outcome Accepts others o (has_it (links past) link cause.0.has) refl going
-  put_going (Tells number (Passes link command payload (Some outcome) Nothing)) others o cause going =
-      pass_going number link command payload outcome Nothing others o (has_it (links past) link cause.0.has) refl going
+  put_going (Tells number (Passes link command payload (Some its) Keeps)) others o cause going =
+      keep_going number link command payload its others o (has_it (links past) link cause.0.has) going
+  put_going (Tells number (Passes link command payload (Some its) Accepts)) others o cause going =
+      pass_going number link command payload its Accepts others o (has_it (links past) link cause.0.has) refl going
+  put_going (Tells number (Passes link command payload (Some its) Nothing)) others o cause going =
+      pass_going number link command payload its Nothing others o (has_it (links past) link cause.0.has) refl going
   put_going (Tells number (Passes link command payload None recording)) others o cause going =
       paid config past (Tells number (Passes link command payload None recording)) others o refl refl refl refl (λ link. refl) refl refl refl going
   put_going (Tells number (Owns status)) others o cause going = paid config past (Tells number (Owns status)) others o refl refl refl refl (λ link. refl) refl refl refl going
   put_going (Tells number (Refuses error)) others o cause going =
       paid config past (Tells number (Refuses error)) others o refl refl refl (refused_assigned config past number error) (λ link. refl) refl refl refl going
   put_going Routes others o cause going = paid config past Routes others o refl refl refl refl (λ link. refl) refl refl refl going
+  put_going (Forgets link id) others o cause going = paid config past (Forgets link id) others o refl refl refl refl (λ link. refl) refl refl refl going
   put_going (LogsInto link packets) others o cause going = paid config past (LogsInto link packets) others o refl refl refl refl (λ link. refl) refl refl refl going
   put_going (Opens link server login) others o cause going = open_going link server login others o cause.0 going
   put_going (Sends link purpose) others o cause going = send_going link purpose others o cause going
@@ -385,12 +388,13 @@ step_going : {config : Config} {past : List Item} {item : Item} → Step config 
 step_going {config} {past} (pays {put = put} {others = others} o) cause going = put_going config past put others o (cause put refl) going
 step_going (asks o n p g w) cause going = still (Puts Routes) o refl refl refl refl (λ link. refl) (λ is. is) going
 step_going {item = item} (prepares o n its f) cause going = still item o refl refl refl refl (λ link. refl) (λ is. is) going
-step_going {item = item} (plays o n its f s) cause going = still item o refl refl refl refl (λ link. refl) (λ is. is) going
-step_going {config} {past} (sends {link = link} {command = command} o n p s g f d) cause (stands kept assigned) =
-    stands (sent_going config past link command (freed true link past f).0 kept)
-    (assigned_still (Puts (Sends link (Asks command))) o refl refl refl (λ at. refl) assigned)
-step_going (sends o n p s g f d) cause (soon s_) = nothing_soon o s_
-step_going (sends o n p s g f d) cause (over is) = over is
+step_going {item = item} (plays o n its f t s) cause going = still item o refl refl refl refl (λ link. refl) (λ is. is) going
+step_going {config} {past} (sends {link = link} {command = command} {id = id} o n p s g f t d i) cause (stands kept assigned) =
+    stands (sent_going config past link command id (freed true link past f).0 kept)
+    (assigned_still (Puts (Sends link (Asks command id))) o refl refl refl (λ at. refl) assigned)
+step_going (sends o n p s g f t d i) cause (soon s_) = nothing_soon o s_
+step_going (sends o n p s g f t d i) cause (over is) = over is
+step_going {item = item} (forgets o n its f t) cause going = still item o refl refl refl refl (λ link. refl) (λ is. is) going
 step_going {item = item} (floods o n p above) cause going = still item o refl refl refl refl (λ link. refl) (λ is. is) going
 step_going (reads o n due) cause going = due_going o due going
 

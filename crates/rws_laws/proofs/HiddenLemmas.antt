@@ -6,10 +6,10 @@ use Rattle.rws_wire.specs.declared.close_reason.CloseReason.{CloseReason}
 use Rattle.rws_wire.specs.declared.drop_cause.DropCause.{DropCause}
 use Rattle.rws_wire.specs.declared.drop_cause.DropCause.TheVariants.{End, Kept, Replay}
 use Rattle.rws_config.specs.declared.config.Config.{Config}
-use Rattle.rws_record.specs.declared.command.Command.{Command}
+use Rattle.rws_commands.specs.declared.command.Command.{Command}
 use Rattle.rws_record.specs.Item.{Item, Put}
 use Rattle.rws_record.specs.Item.Item.{Puts, Starves}
-use Rattle.rws_record.specs.Item.Put.{Hands, Tells, Routes, Opens, LogsInto, Sends, Drops, Closes}
+use Rattle.rws_record.specs.Item.Put.{Hands, Tells, Routes, Opens, LogsInto, Sends, Forgets, Drops, Closes}
 use Rattle.rws_record.specs.Item.Recording.{Nothing, Accepts, Keeps}
 use Rattle.rws_record.specs.Item.Tell.{Passes, Owns, Refuses}
 use Rattle.rws_record.specs.Values.{goes_on, kept_on, pending, sent_on, told_from, is_over, transaction}
@@ -18,7 +18,7 @@ use Rattle.rws_record.specs.Record.{IsRecord}
 use Rattle.rws_record.specs.Record.IsRecord.{begins, steps, answers, hears, starves}
 use Rattle.rws_record.proofs.OpeningLemmas.{asks_open, asks_owing_nothing}
 use Rattle.rws_record.proofs.StepLemmas.{Step, of_next, rests_owing_nothing}
-use Rattle.rws_record.proofs.StepLemmas.Step.{pays, asks, prepares, plays, sends, floods, reads}
+use Rattle.rws_record.proofs.StepLemmas.Step.{pays, asks, prepares, forgets, plays, sends, floods, reads}
 use Rattle.rws_record.proofs.WantLemmas.{closes_soon}
 use Rattle.rws_laws.specs.Servers.{Lost, lost_by}
 use Rattle.rws_laws.specs.Servers.Lost.{closed, given_up}
@@ -44,6 +44,7 @@ put_closing (Hands packets) others o (over is) = over is
 put_closing (Tells number tell) others o (over is) = over is
 put_closing Routes others o (over is) = over is
 put_closing (Opens to server login) others o (over is) = over is
+put_closing (Forgets to id) others o (over is) = over is
 put_closing (LogsInto to packets) others o (over is) = over is
 put_closing (Sends to purpose) others o (over is) = over is
 put_closing (Drops gone cause) others o (over is) = over is
@@ -62,6 +63,7 @@ put_closing {config} {past} (Tells number (Refuses error)) others o (soon s) =
     soon (paid_soon config past (Tells number (Refuses error)) others o refl refl s)
 put_closing {config} {past} Routes others o (soon s) = soon (paid_soon config past Routes others o refl refl s)
 put_closing {config} {past} (Opens to server login) others o (soon s) = soon (paid_soon config past (Opens to server login) others o refl refl s)
+put_closing {config} {past} (Forgets to id) others o (soon s) = soon (paid_soon config past (Forgets to id) others o refl refl s)
 put_closing {config} {past} (LogsInto to packets) others o (soon s) = soon (paid_soon config past (LogsInto to packets) others o refl refl s)
 put_closing {config} {past} (Sends to purpose) others o (soon s) = soon (paid_soon config past (Sends to purpose) others o refl refl s)
 put_closing {config} {past} (Drops gone cause) others o (soon s) = soon (paid_soon config past (Drops gone cause) others o refl refl s)
@@ -70,8 +72,9 @@ step_closing : {config : Config} {past : List Item} {item : Item} → Step confi
 step_closing (pays {put = put} {others = others} o) closing = put_closing put others o closing
 step_closing (asks o n p g w) closing = not_closing o n closing
 step_closing (prepares o n has f) closing = not_closing o n closing
-step_closing (plays o n has f s) closing = not_closing o n closing
-step_closing (sends o n p s g f d) closing = not_closing o n closing
+step_closing (plays o n has f t s) closing = not_closing o n closing
+step_closing (sends o n p s g f t d i) closing = not_closing o n closing
+step_closing (forgets o n has f t) closing = not_closing o n closing
 step_closing (floods o n p above) closing = not_closing o n closing
 step_closing (reads o n due) closing = not_closing o n closing
 

@@ -12,6 +12,7 @@ pub mod CameLemmas
 pub mod LostLemmas
 pub mod ReplyLemmas
 pub mod RoutedLemmas
+pub mod CommandLemmas
 pub mod OwedLemmas
 pub mod GivenLemmas
 pub mod SoundLemmas
@@ -22,8 +23,10 @@ pub mod HistoryLemmas
 pub mod CausesLemmas
 -- the law on what a client has where a reply ended
 pub mod BytesLemmas
+pub mod HandleLemmas
 pub mod WholeLemmas
 -- the law on what has set a session on its links
+pub mod PlacedLemmas
 pub mod SharedLemmas
 -- the laws on where a command goes
 pub mod OnceLemmas
@@ -39,7 +42,17 @@ pub mod CountsLemmas
 -- the law on what a session that rests has answered
 pub mod EndedLemmas
 pub mod UpLemmas
+pub mod LinkIdLemmas
+pub mod NamedLemmas
+pub mod FollowLemmas
+pub mod IdLemmas
+pub mod KnownLemmas
+pub mod SendableLemmas
 pub mod AwaitedLemmas
 pub mod AnswersLemmas
 mod TransactionLemmas
 mod BarredLemmas
+-- the law on what goes on a link for an execute
+pub mod FormLemmas
+-- and on the id under which it goes
+pub mod GivenIdLemmas

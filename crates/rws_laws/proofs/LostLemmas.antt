@@ -21,12 +21,12 @@ use Rattle.rws_link.specs.declared.step.LinkCause.{LinkCause}
 use Rattle.rws_link.specs.declared.step.LinkCause.TheVariants.{Unasked}
 use Rattle.rws_link.specs.declared.step.LinkStep.{LinkStep}
 use Rattle.rws_link.specs.declared.step.LinkStep.TheVariants as steps
-use Rattle.rws_link.specs.Stepping.{LinkState, LogsIn, Rests, Awaits, IsLost, Exchange, behind_part, fed, is_new, logged_in, opened as opening, reacted, readied, read_by, replied, replied_by, sent, settled, step, with_part}
+use Rattle.rws_link.specs.Stepping.{LinkState, LogsIn, Rests, Awaits, IsLost, Exchange, behind_part, fed, is_new, logged_in, opened as opening, reacted, readied, read_by, replied, replied_by, settled, step, with_part}
 use Rattle.rws_record.specs.Item.{Item, Purpose, Put}
 use Rattle.rws_record.specs.Item.Item.{Accepted, TurnsAway, Began, ClientBytes, LinkReady, LinkBytes, ClientGone, LinkLost, Ticks, Routed, Comes, Connects, Takes, Floods, Puts, Starves}
-use Rattle.rws_record.specs.Item.Put.{Hands, Tells, Routes, Opens, LogsInto, Sends, Drops, Closes}
+use Rattle.rws_record.specs.Item.Put.{Hands, Tells, Routes, Opens, LogsInto, Sends, Forgets, Drops, Closes}
 use Rattle.rws_record.specs.Item.Purpose.{Prepares, Asks, Plays}
-use Rattle.rws_record.specs.Values.{awaited, contains, is_starved, kind_of, link_held, linked, links, sent_for, unread, without}
+use Rattle.rws_record.specs.Values.{awaited, contains, is_starved, kind_of, link_held, linked, links, sent_all, sent_for, unread, without}
 use Rattle.rws_record.specs.Rules.{drop_cause, owed}
 use Rattle.rws_record.specs.Record.{IsBeginning, IsRecord, IsInput}
 use Rattle.rws_record.specs.Record.IsRecord.{begins, steps as goes, answers as answered, hears, starves}
@@ -34,14 +34,14 @@ use Rattle.rws_record.proofs.LinkedLemmas.{Says, after_loss_is, after_part_is}
 use Rattle.rws_record.proofs.LinkedLemmas.Says.{answers, enters, hurries, fails, breaks, part, garbled, wrong, again}
 use Rattle.rws_record.proofs.StepLemmas.{Due, Step, of_next, rests_owing_nothing}
 use Rattle.rws_record.proofs.StepLemmas.Due.{comes, connects, takes}
-use Rattle.rws_record.proofs.StepLemmas.Step.{pays, asks, prepares, plays, sends, floods, reads}
+use Rattle.rws_record.proofs.StepLemmas.Step.{pays, asks, prepares, forgets, plays, sends, floods, reads}
 use Rattle.rws_record.proofs.WantLemmas.{input_starved, step_starved}
 use Rattle.rws_record.proofs.WithoutLemmas.{without_has_not, without_keeps_out}
 use Rattle.rws_laws.specs.Servers.{LoginCame, LoginFailed, WasUnasked}
 use Rattle.rws_laws.specs.Servers.LoginFailed.{no_greeting, not_served, error_came, other_plugin, no_answer, bad_question}
 use Rattle.rws_laws.specs.Servers.WasUnasked.{resting, behind_login, behind_reply, earlier}
 use Rattle.rws_laws.proofs.ListLemmas.{no_more}
-use Rattle.rws_laws.proofs.CameLemmas.{after_answer_is, after_entering_is}
+use Rattle.rws_laws.proofs.CameLemmas.{by_sent, after_answer_is, after_entering_is}
 use Rattle.rws_laws.proofs.HandshakeLemmas.{fails_so, takes_so}
 use Rattle.rws_record.proofs.OpeningLemmas.{asks_owing_nothing}
 
@@ -168,9 +168,10 @@ was_unasked link (Comes from said ∷ past) now = by_test (from == link) refl no
 was_unasked link (Puts (Sends to purpose) ∷ past) now = by_test (to == link) now (was_unasked link past)
   where
     by_test : (test : Bool)
-        → (if test then sent (sent_for purpose) (Some (kind_of purpose)) else linked link past) ≡ IsLost Unasked
+        → (if test then sent_all (sent_for purpose) (kind_of purpose) else linked link past) ≡ IsLost Unasked
         → (linked link past ≡ IsLost Unasked → WasUnasked link past) → WasUnasked link (Puts (Sends to purpose) ∷ past)
-    by_test true now below = absurd cc
+    by_test true now below =
+        absurd (by_sent (λ (state : LinkState). state ≡ IsLost Unasked → ⊥) (λ e. cc) (λ x e. cc) (sent_for purpose) (kind_of purpose) now)
     by_test false now below = earlier (below now)
 was_unasked link (LinkReady ready ∷ past) now = by_test (ready == link) now (was_unasked link past)
   where
@@ -190,6 +191,7 @@ was_unasked link (Routed words loads next found ∷ past) now = earlier (was_una
 was_unasked link (Connects said ∷ past) now = earlier (was_unasked link past now)
 was_unasked link (Puts (Hands packets) ∷ past) now = earlier (was_unasked link past now)
 was_unasked link (Puts Routes ∷ past) now = earlier (was_unasked link past now)
+was_unasked link (Puts (Forgets to id) ∷ past) now = earlier (was_unasked link past now)
 was_unasked link (Puts (LogsInto to packets) ∷ past) now = earlier (was_unasked link past now)
 was_unasked link (ClientBytes bytes ∷ past) now = earlier (was_unasked link past now)
 was_unasked link (ClientGone ∷ past) now = earlier (was_unasked link past now)
@@ -303,9 +305,10 @@ sending_loses : (config : Config) (past : List Item) (to : ℕ) (purpose : Purpo
 sending_loses config past to purpose all = λ link cause now. by_test link cause (to == link) now
   where
     by_test : (link : ℕ) (cause : LinkCause) (test : Bool)
-        → (if test then sent (sent_for purpose) (Some (kind_of purpose)) else linked link past) ≡ IsLost cause
+        → (if test then sent_all (sent_for purpose) (kind_of purpose) else linked link past) ≡ IsLost cause
         → Losing config link cause (Puts (Sends to purpose) ∷ past)
-    by_test link cause true now = absurd cc
+    by_test link cause true now =
+        absurd (by_sent (λ (state : LinkState). state ≡ IsLost cause → ⊥) (λ e. cc) (λ x e. cc) (sent_for purpose) (kind_of purpose) now)
     by_test link cause false now = all link cause now
 
 -- something is given out, but no link given up
@@ -348,6 +351,9 @@ put_loses config past Routes others o all = λ link cause now.
 put_loses config past (LogsInto to packets) others o all = λ link cause now.
     stays config past (LogsInto to packets) link cause (λ is. let clash : LogsInto to packets ∷ others ≡ Drops link (drop_cause cause) ∷ [] = sym o ∙ is in cc)
     refl (all link cause now)
+put_loses config past (Forgets to id) others o all = λ link cause now.
+    stays config past (Forgets to id) link cause (λ is. let clash : Forgets to id ∷ others ≡ Drops link (drop_cause cause) ∷ [] = sym o ∙ is in cc)
+    refl (all link cause now)
 put_loses config past (Opens opened server login) others o all = opening_loses config past opened server login others o all
 put_loses config past (Tells number tell) others o all = λ link cause now.
     stays config past (Tells number tell) link cause (λ is. let clash : Tells number tell ∷ others ≡ Drops link (drop_cause cause) ∷ [] = sym o ∙ is in cc)
@@ -372,10 +378,11 @@ step_loses {config} {past} (pays {put = put} {others = others} o) all = put_lose
 step_loses (asks o n p k l) all = λ link cause now. still o (λ less. less) (all link cause now)
 step_loses {config} {past} (prepares {link = to} o n k c) all =
     sending_loses config past to Prepares (λ link cause now. still o (λ less. less) (all link cause now))
-step_loses {config} {past} (plays {link = to} {command = command} o n k c s) all =
-    sending_loses config past to (Plays command) (λ link cause now. still o (λ less. less) (all link cause now))
-step_loses {config} {past} (sends {link = to} {command = command} o n p s k c d) all =
-    sending_loses config past to (Asks command) (λ link cause now. still o (λ less. less) (all link cause now))
+step_loses {config} {past} (plays {link = to} {entry = entry} o n k c t s) all =
+    sending_loses config past to (Plays entry) (λ link cause now. still o (λ less. less) (all link cause now))
+step_loses {config} {past} (sends {link = to} {command = command} {id = id} o n p s k c t d i) all =
+    sending_loses config past to (Asks command id) (λ link cause now. still o (λ less. less) (all link cause now))
+step_loses (forgets o n has f t) all = λ link cause now. still o (λ less. less) (all link cause now)
 step_loses (floods o n p above) all = λ link cause now. still o (λ less. less) (all link cause now)
 step_loses (reads o n due) all = due_loses o due all
 

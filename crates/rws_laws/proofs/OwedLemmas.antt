@@ -2,7 +2,6 @@
 use Rattle.std.proofs.Common.{◌≡◌, ℕ, Bool, true, false, List, [], ◌∷◌, ◌++◌, length, refl, sym, ap, subst, ◌∙◌, inl, inr, Option, Some, None}
 use Rattle.std.specs.Prelude.{◌≢◌, ◌⊎◌, ◌&&◌, ◌≤◌, nat_lt, not, Contains, ◌==◌, is_some}
 use Rattle.std.proofs.lemmas.Bool.{cases_lt, eq-eqb, lt-ltb, ltb-true}
-use Rattle.rws_trx.specs.OnLinks.{status_of}
 use Rattle.rws_wire.specs.declared.close_reason.CloseReason.{CloseReason}
 use Rattle.rws_wire.specs.declared.drop_cause.DropCause.TheVariants.{BadReply, Unasked, Login as LoginFails, Kept, SessionDiffers}
 use Rattle.rws_wire.specs.Payloads.{first_payload}
@@ -27,40 +26,42 @@ use Rattle.rws_link.specs.declared.step.LinkStep.TheVariants as steps
 use Rattle.rws_link.specs.Stepping.{LinkState, Awaits, Exchange, is_some_byte, step, with_part}
 use Rattle.rws_config.specs.declared.config.Config.{Config}
 use Rattle.rws_config.specs.declared.limits.TheConstants.{SERVER_PAYLOAD}
-use Rattle.rws_record.specs.declared.command.Command.{Command}
-use Rattle.rws_record.specs.declared.request.Request.{Request}
-use Rattle.rws_record.specs.declared.request.Request.TheVariants as requests
-use Rattle.rws_record.specs.Item.{Item, Judged, Recording, Tell}
-use Rattle.rws_record.specs.Item.Item.{TurnsAway, Comes, Connects, Takes, Puts}
+use Rattle.rws_commands.specs.declared.command.Command.{Command}
+use Rattle.rws_msgs.specs.declared.prepare_ok.PrepareOk.{PrepareOk}
+use Rattle.rws_commands.specs.declared.history.HistoryEntry.{HistoryEntry}
+use Rattle.rws_commands.specs.declared.history.PreparedAs.{PreparedAs}
+use Rattle.rws_record.specs.Item.{Ending, Item, Recording, Tell}
+use Rattle.rws_record.specs.Item.Item.{TurnsAway, Comes, Connects, Puts}
 use Rattle.rws_record.specs.Item.Purpose.{Prepares, Asks, Plays}
 use Rattle.rws_record.specs.Item.Recording.{Nothing, Accepts, Keeps}
 use Rattle.rws_record.specs.Item.Put.{Hands, Tells, Drops, Closes}
 use Rattle.rws_record.specs.Item.Tell.{Passes}
-use Rattle.rws_class.specs.Classes.{class_of}
 use Rattle.rws_class.specs.declared.class.Class.{Class}
 use Rattle.rws_class.specs.declared.class.Class.TheVariants.{Read, PrimaryRead, Write, Session, Begin, BeginReadOnly, Commit, Rollback, AutocommitOn, AutocommitOff, TrxLocal, Ddl, Refused as Forbidden, Other}
-use Rattle.rws_record.specs.Judging.{changes, is_forbidden, judged_as, judged_by, refusal_by}
-use Rattle.rws_record.specs.Requests.{arguments_of, class_by, request_of}
-use Rattle.rws_record.specs.Values.{accepted, class_by_pending, class_of_command, fronted, is_session, goes_on, links, kept_on, asked_on, awaited, exchange, linked, prepared_handle, link_held, pending, sent_on, reply_number, told, told_from, is_over, without, transaction, transaction_bytes}
-use Rattle.rws_record.specs.Rules.{again_by, goes_if, is_link, after_loss, after_loss_by, loss_by, after_command, after_connecting, after_flood, after_keeping, after_played, after_preparing, after_turning_away, after_answer, form_of, recording_by, recording_of, unasked, context, ending, is_full, is_read_only, is_replay_off, is_replayable}
+use Rattle.rws_commands.specs.Statements.{Statements, is_full, is_otherwise, swept_if}
+use Rattle.rws_commands.specs.Commands.{class_of_command, is_session}
+use Rattle.rws_record.specs.Values.{class_by_pending, fronted, goes_on, links, kept_on, asked_on, awaited, exchange, linked, named_in, named_on, link_held, pending, sent_on, statements, ends_transaction, reply_number, told, told_from, is_over, without, transaction, transaction_bytes}
+use Rattle.rws_record.specs.Rules.{again_by, goes_if, is_link, after_loss, after_loss_by, loss_by, after_connecting, after_flood, after_keeping, after_played, after_preparing, after_turning_away, after_answer, form_of, recording_by, recording_of, differing, unasked, ending, is_full_behind, is_read_only, is_replay_off, is_replayable}
 use Rattle.rws_record.proofs.LinkedLemmas.{after_part_is}
 use Rattle.rws_record.proofs.RecordLemmas.{contained}
-use Rattle.rws_laws.specs.Client.{Took, Flooded, IsPending, IsSaid, Refused}
+use Rattle.rws_laws.specs.Client.{Flooded, IsPending, IsSaid, Refused}
 use Rattle.rws_laws.specs.Client.Refused.{not_spoken, denied, out_of_order, too_large}
 use Rattle.rws_laws.specs.Client.Handed.{in_login, at_end}
 use Rattle.rws_laws.specs.Client.WasRefused.{refused}
 use Rattle.rws_laws.specs.Client.Asked.{before}
 use Rattle.rws_laws.specs.Servers.{IsNoReply, Lost, came_on}
 use Rattle.rws_laws.specs.Servers.IsWrong.{wrong}
+use Rattle.rws_laws.specs.Servers.{IsOther}
+use Rattle.rws_laws.specs.Servers.IsOther.{fails, counts}
 use Rattle.rws_laws.specs.Servers.WasUnasked.{behind_reply, earlier}
-use Rattle.rws_laws.specs.Causes.{HasSet, IsBarred, IsCut, IsEnded, IsHidden, IsOfReply, IsPassed, IsRecorded, SetsSession}
+use Rattle.rws_laws.specs.Causes.{HasSet, IsCut, IsEnded, IsHidden, IsOfReply, IsPassed, IsRecorded, SetsSession}
 use Rattle.rws_laws.specs.Causes.JustKept.{fills}
 use Rattle.rws_laws.specs.Causes.SetsSession.{sets, sets_autocommit, unsets_autocommit}
 use Rattle.rws_laws.proofs.CameLemmas.{left_by, part_leaves}
 use Rattle.rws_laws.proofs.LinksLemmas.{StaysCaused, others_caused}
-use Rattle.rws_laws.proofs.TransactionLemmas.{barred_class, both, lasting, not_again, only_reads}
+use Rattle.rws_laws.proofs.TransactionLemmas.{lasting, not_again, only_reads}
 use Rattle.rws_laws.proofs.ListLemmas.{has_it, other_stays}
-use Rattle.rws_laws.proofs.Sound.{Caused, Sent, ToldBy, Telling, IsAsked, Asking, is_that, is_not}
+use Rattle.rws_laws.proofs.Sound.{Caused, Sent, handle, ToldBy, Telling, IsAsked, Asking, is_that, is_not}
 use Rattle.rws_laws.proofs.Sound.Caused.{nothing, drops, leaves as leaves_behind, closes, hands, tells}
 use Rattle.rws_laws.proofs.Sound.ToldBy.{none_told, a_part, all}
 
@@ -149,83 +150,10 @@ module _ (config : Config) (below past : List Item) (link : ℕ) (lost : Lost li
       losing (is_link link (told_from below)) (is_link link (sent_on below)) again (is_link link (kept_on below))
       (is_link link (transaction config below).link) (is_link link (goes_if (pending below) (goes_on config below))) refl refl refl refl refl
 
--- A command is answered, whatever it is
-
-forbidden_is : (class : Class) → is_forbidden class ≡ true → class ≡ Forbidden
-forbidden_is Forbidden e = refl
-forbidden_is Read e = absurd cc
-forbidden_is PrimaryRead e = absurd cc
-forbidden_is Write e = absurd cc
-forbidden_is Session e = absurd cc
-forbidden_is Begin e = absurd cc
-forbidden_is BeginReadOnly e = absurd cc
-forbidden_is Commit e = absurd cc
-forbidden_is Rollback e = absurd cc
-forbidden_is AutocommitOn e = absurd cc
-forbidden_is AutocommitOff e = absurd cc
-forbidden_is TrxLocal e = absurd cc
-forbidden_is Ddl e = absurd cc
-forbidden_is Other e = absurd cc
-
--- a command for a server: its text is forbidden, or it changes something in a read-only transaction, or it goes on its way
-module _ (config : Config) (payload : Payload) (number status : ℕ) (below : List Item) (it : Judged)
-    (taken : Took config payload number (Takes it number ∷ below)) where
-  abbrev now : List Item
-  now = Takes it number ∷ below
-
-  query_caused : (class : Class) (forbidden changing : Bool) → class_of (arguments_of payload) ≡ class → is_forbidden class ≡ forbidden
-      → (is_read_only (transaction config below).state.opened && changes (is_full config below) class) ≡ changing
-      → request_of payload ≡ requests.Query
-      → Caused config (after_command (judged_by (refusal_by false false false false false false forbidden changing) requests.Query payload number) number status) now
-  query_caused class true changing its f c r = tells (payload, taken, inr (r, its ∙ forbidden_is class f)) nothing
-  query_caused class false true its f c r =
-      let two = both (is_read_only (transaction config below).state.opened) (changes (is_full config below) class) c in
-      tells (
-        payload,
-        taken,
-        (only_reads (transaction config below).state.opened).0 two.0,
-        inl (r, subst (λ (k : Class). IsBarred config now k) (sym its) (barred_class config now class f two.1)),
-      ) nothing
-  query_caused class false false its f c r = nothing
-
-  choice_caused : (changing : Bool) → (is_read_only (transaction config below).state.opened && is_full config below) ≡ changing
-      → request_of payload ≡ requests.InitDb
-      → Caused config (after_command (judged_by (refusal_by false false false false false false false changing) requests.InitDb payload number) number status) now
-  choice_caused true c r =
-      let two = both (is_read_only (transaction config below).state.opened) (is_full config below) c in
-      tells (
-        payload,
-        taken,
-        (only_reads (transaction config below).state.opened).0 two.0,
-        inr (r, barred_class config now Session refl two.1),
-      ) nothing
-  choice_caused false c r = nothing
-
-  fields_caused : (read_only : Bool)
-      → Caused config (after_command (judged_by (refusal_by false false false false false false false (read_only && false)) requests.FieldList payload number) number status) now
-  fields_caused true = nothing
-  fields_caused false = nothing
-
-pub command_caused : (config : Config) (payload : Payload) (number : ℕ) (below : List Item) (it : Judged) (request : Request)
-    → request_of payload ≡ request → Took config payload number (Takes it number ∷ below)
-    → Caused config (after_command (judged_as (context config below) request (class_by request payload) payload number) number (status_of (transaction config below).state))
-    (Takes it number ∷ below)
-command_caused config payload number below it requests.Quit r taken = closes (payload, number, taken, r)
-command_caused config payload number below it requests.Ping r taken = tells (payload, taken, r, refl) nothing
-command_caused config payload number below it requests.Query r taken =
-    query_caused config payload number (status_of (transaction config below).state) below it taken (class_of (arguments_of payload))
-    (is_forbidden (class_of (arguments_of payload)))
-    (is_read_only (transaction config below).state.opened && changes (is_full config below) (class_of (arguments_of payload))) refl refl refl r
-command_caused config payload number below it requests.FieldList r taken =
-    fields_caused config payload number (status_of (transaction config below).state) below it taken (is_read_only (transaction config below).state.opened)
-command_caused config payload number below it requests.InitDb r taken =
-    choice_caused config payload number (status_of (transaction config below).state) below it taken
-    (is_read_only (transaction config below).state.opened && is_full config below) refl r
-command_caused config payload number below it requests.Unsupported r taken = tells (payload, taken, inl r) nothing
-command_caused config payload number below it requests.Unknown r taken = tells (payload, taken, r) nothing
+-- Too much came behind a command that isn't answered
 
 pub flood_caused : (config : Config) (bytes : ℕ) (past : List Item) → Flooded config bytes past → Caused config (after_flood bytes) past
-flood_caused config bytes past noted = tells (bytes, noted, refl) (closes (past, refl, noted))
+flood_caused config bytes past noted = tells (inl (bytes, noted, refl)) (closes (past, refl, noted))
 
 -- The client's login
 
@@ -235,7 +163,7 @@ refusal_caused : {config : Config} {past : List Item} {packets : List ℕ} {reas
 refusal_caused (not_spoken r n) = hands (at_end (not_spoken r n)) (closes (refused (not_spoken r n)))
 refusal_caused (denied p n) = hands (at_end (denied p n)) (closes (refused (denied p n)))
 refusal_caused (out_of_order b) = hands (at_end (out_of_order b)) (closes (refused (out_of_order b)))
-refusal_caused (too_large b) = hands (at_end (too_large b)) (closes (refused (too_large b)))
+refusal_caused (too_large b) = hands (at_end (too_large b)) (closes (inl (refused (too_large b))))
 
 pub said_caused : (config : Config) (past : List Item) (said : FrontStep) → IsSaid config (fronted config past) said
     → Caused config (after_connecting said) (Connects said ∷ past)
@@ -369,33 +297,65 @@ module _ (config : Config) (past : List Item) (link : ℕ) (e : Exchange) (paylo
 -- The reply to an entry of the history
 
 module _ (config : Config) (past : List Item) (link : ℕ) (e : Exchange) (payload rest : Payload) (number : ℕ)
-    (arrived : Arrived past link e payload rest number) (command : Command) (kind : e.kind ≡ command.kind)
-    (asked : asked_on link past ≡ Some (Plays command)) where
+    (arrived : Arrived past link e payload rest number) (entry : HistoryEntry) (kind : e.kind ≡ entry.kind)
+    (asked : asked_on link past ≡ Some (Plays entry)) where
   pub misplayed_caused : progress e.kind e.sofar payload ≡ None
       → Caused config (Drops link BadReply ∷ []) (Comes link (steps.Lost losses.BadReply) ∷ past)
   misplayed_caused p =
       drops {link = link} {cause = BadReply} arrived.goes
-      (inr (inr (inl (command, payload, asked, no_reply_so past link e payload rest number arrived command.kind kind p))), arrived.has)
+      (inr (inr (inl (entry, payload, asked, no_reply_so past link e payload rest number arrived entry.kind kind p))), arrived.has)
+
+  -- the reply ended so, and told of this statement
+  module _ (its : Role) (outcome : Outcome) (r : role e.kind e.sofar payload ≡ Some its) (p : progress e.kind e.sofar payload ≡ Some (Ends outcome)) where
+    abbrev whole_said : LinkStep
+    whole_said = steps.Part payload its (Ends outcome) number (is_some_byte rest)
+
+    played_so : IsReply entry.kind (came_on link (Comes link whole_said ∷ past)) outcome
+    played_so =
+        let reply = ((progress_is_exact e.kind e.sofar payload).whole outcome).0 p in
+        let reply : IsReply entry.kind (e.sofar ++ payload ∷ []) outcome = rw kind at reply in
+        let came = came_with past link e payload rest number arrived its (Ends outcome) r p in
+        subst (λ (list : List Payload). IsReply entry.kind list outcome) (sym came) reply
+
+    differs : IsOther entry (came_on link (Comes link whole_said ∷ past)) (named_on link (Comes link whole_said ∷ past))
+        → Caused config (Drops link SessionDiffers ∷ []) (Comes link whole_said ∷ past)
+    differs other =
+        drops {link = link} {cause = SessionDiffers} arrived.goes
+        (record { came = refl; entry = entry; asked = asked; other = other }, arrived.has)
+
+  other_counts : (statement : Option PreparedAs) (named : Option PrepareOk) → is_otherwise statement named ≡ true
+      → (how : PreparedAs) × (ok : PrepareOk) × (statement ≡ Some how) × (named ≡ Some ok) × (¬ ((how.columns ≡ ok.columns) × (how.parameters ≡ ok.parameters)))
+  other_counts None named e = absurd cc
+  other_counts (Some how) None e = absurd cc
+  other_counts (Some how) (Some ok) e = (
+    how,
+    ok,
+    refl,
+    refl,
+    λ same.
+        let columns : (how.columns == ok.columns) ≡ true = eq-eqb how.columns ok.columns same.0 in
+        let parameters : (how.parameters == ok.parameters) ≡ true = eq-eqb how.parameters ok.parameters same.1 in
+        let clash : false ≡ true = rw (columns, parameters) at e in cc,
+  )
+
+  counted_caused : (its : Role) (status : ℕ) (otherwise : Bool) → is_otherwise entry.statement (named_in its payload (named_on link past)) ≡ otherwise
+      → role e.kind e.sofar payload ≡ Some its → progress e.kind e.sofar payload ≡ Some (Ends (Done status))
+      → Caused config (differing link otherwise (is_some_byte rest)) (Comes link (steps.Part payload its (Ends (Done status)) number (is_some_byte rest)) ∷ past)
+  counted_caused its status false o r p = byte_behind config past link e payload rest number arrived its (Done status) r p
+  counted_caused its status true o r p =
+      let same : named_on link (Comes link (steps.Part payload its (Ends (Done status)) number (is_some_byte rest)) ∷ past) ≡ named_in its payload (named_on link past) =
+      rw (itself past link e payload rest number arrived) refl in
+      let found = other_counts entry.statement (named_in its payload (named_on link past)) o in
+      differs its (Done status) r p (counts found.0 found.1 status found.2 (same ∙ found.3) (played_so its (Done status) r p) found.4)
 
   pub playing_caused : (its : Role) (far : Progress) → role e.kind e.sofar payload ≡ Some its → progress e.kind e.sofar payload ≡ Some far
-      → Caused config (after_played link far (is_some_byte rest)) (Comes link (steps.Part payload its far number (is_some_byte rest)) ∷ past)
+      → Caused config (after_played link entry (named_in its payload (named_on link past)) far (is_some_byte rest))
+      (Comes link (steps.Part payload its far number (is_some_byte rest)) ∷ past)
   playing_caused its More r p = nothing
   playing_caused its (Ends (Failed code)) r p =
-      let reply = ((progress_is_exact e.kind e.sofar payload).whole (Failed code)).0 p in
-      let reply : IsReply command.kind (e.sofar ++ payload ∷ []) (Failed code) = rw kind at reply in
-      let came = came_with past link e payload rest number arrived its (Ends (Failed code)) r p in
-      drops {link = link} {cause = SessionDiffers} arrived.goes (
-        record {
-          came = refl;
-          command = command;
-          asked = asked;
-          code = code;
-          failed = subst (λ (list : List Payload). IsReply command.kind list (Failed code)) (sym came) reply;
-        },
-        arrived.has,
-      )
+      differs its (Failed code) r p (fails code (played_so its (Failed code) r p))
   playing_caused its (Ends (Done status)) r p =
-      byte_behind config past link e payload rest number arrived its (Done status) r p
+      counted_caused its status (is_otherwise entry.statement (named_in its payload (named_on link past))) refl r p
 
 -- What the end of a reply means for the history
 
@@ -420,33 +380,43 @@ no_session sets e = absurd cc
 no_session sets_autocommit e = absurd cc
 no_session unsets_autocommit e = absurd cc
 
-pub recorded : (config : Config) (command : Command) (outcome : Outcome) (link : ℕ) (said : LinkStep) (past : List Item) → pending past ≡ Some command
-    → IsRecorded config command outcome (recording_of config past outcome) (Comes link said ∷ past)
-recorded config command outcome link said past p =
-    subst (λ (its : Option Command). IsRecorded config command outcome
-    (recording_by (is_session (class_by_pending its)) (is_some (kept_on past)) (not (nat_lt (length (accepted past)) config.history_limit)) outcome)
-    (Comes link said ∷ past)) (sym p)
-    (by_values (is_session (class_of_command command)) refl (kept_on past) refl (nat_lt (length (accepted past)) config.history_limit) refl outcome)
-  where
-    by_values : (its : Bool) → is_session (class_of_command command) ≡ its → (kept : Option ℕ) → kept_on past ≡ kept
-        → (room : Bool) → nat_lt (length (accepted past)) config.history_limit ≡ room → (outcome : Outcome)
-        → IsRecorded config command outcome (recording_by its (is_some kept) (not room) outcome) (Comes link said ∷ past)
-    by_values false s kept k room l outcome = λ set. no_session set.class s
-    by_values true s (Some on) k room l outcome = λ set. let clash : None ≡ Some on = sym set.free ∙ k in absurd cc
-    by_values true s None k true l (Failed code) = λ set. let clash : Failed code ≡ Done set.status = set.done in absurd cc
-    by_values true s None k false l (Failed code) = λ set. let clash : Failed code ≡ Done set.status = set.done in absurd cc
-    by_values true s None k true l (Done status) = (
-      record { class = session_class (class_of_command command) s; status = status; done = refl; free = k },
-      ltb-true (length (accepted past)) config.history_limit l,
-    )
-    by_values true s None k false l (Done status) = (
-      record { class = session_class (class_of_command command) s; status = status; done = refl; free = k },
-      elim (cases_lt (length (accepted past)) config.history_limit) [
-        | inl below ↦
-            let clash : false ≡ true = sym l ∙ lt-ltb (length (accepted past)) config.history_limit below in absurd cc
-        | inr full ↦ full
-      ],
-    )
+module _ (config : Config) (command : Command) (now : List Item) where
+  abbrev count : ℕ
+  count = length (statements config now).history
+
+  recorded_by : (its : Bool) → is_session (class_of_command command) ≡ its → (kept : Option ℕ) → kept_on now ≡ kept
+      → (room : Bool) → nat_lt count config.history_limit ≡ room → (outcome : Outcome)
+      → IsRecorded config command outcome (recording_by its (is_some kept) (not room) outcome) now
+  recorded_by false s kept k room l outcome = λ set. no_session set.class s
+  recorded_by true s (Some on) k room l outcome = λ set. let clash : None ≡ Some on = sym set.free ∙ k in absurd cc
+  recorded_by true s None k true l (Failed code) = λ set. let clash : Failed code ≡ Done set.status = set.done in absurd cc
+  recorded_by true s None k false l (Failed code) = λ set. let clash : Failed code ≡ Done set.status = set.done in absurd cc
+  recorded_by true s None k true l (Done status) = (
+    record { class = session_class (class_of_command command) s; status = status; done = refl; free = k },
+    ltb-true count config.history_limit l,
+  )
+  recorded_by true s None k false l (Done status) = (
+    record { class = session_class (class_of_command command) s; status = status; done = refl; free = k },
+    elim (cases_lt count config.history_limit) [
+      | inl below ↦
+          let clash : false ≡ true = sym l ∙ lt-ltb count config.history_limit below in absurd cc
+      | inr full ↦ full
+    ],
+  )
+
+-- behind the end of a reply to a command of the client the statements are those that the transaction's end leaves
+pub recorded : (config : Config) (command : Command) (id : Option ℕ) (link : ℕ) (past : List Item) (payload : Payload) (its : Role) (outcome : Outcome)
+    (number : ℕ) (behind : Bool) → pending past ≡ Some command → asked_on link past ≡ Some (Asks command id)
+    → IsRecorded config command outcome (recording_of config link past outcome) (Comes link (steps.Part payload its (Ends outcome) number behind) ∷ past)
+recorded config command id link past payload its outcome number behind p a =
+    let now : List Item = Comes link (steps.Part payload its (Ends outcome) number behind) ∷ past in
+    let swept : statements config now ≡ swept_if (ends_transaction config link outcome past) (statements config past) = rw a refl in
+    subst (λ (pending : Option Command). IsRecorded config command outcome
+    (recording_by (is_session (class_by_pending pending)) (is_some (kept_on past)) (is_full_behind config link outcome past) outcome) now) (sym p)
+    (subst (λ (s : Statements). IsRecorded config command outcome
+    (recording_by (is_session (class_of_command command)) (is_some (kept_on past)) (is_full config.history_limit s) outcome) now) swept
+    (recorded_by config command now (is_session (class_of_command command)) refl (kept_on past) refl
+    (nat_lt (length (statements config now).history) config.history_limit) refl outcome))
 
 -- The reply to the pending command
 
@@ -454,10 +424,11 @@ recorded config command outcome link said past p =
 pub record CameNext (config : Config) (past : List Item) (link : ℕ) (e : Exchange) (command : Command) (payload rest : Payload) (number : ℕ) : Type 0 where
   pub arrived : Arrived past link e payload rest number
   pub kind : e.kind ≡ command.kind
-  pub asked_it : asked_on link past ≡ Some (Asks command)
+  pub id : Option ℕ
+  pub asked_it : asked_on link past ≡ Some (Asks command id)
   pub pending : pending past ≡ Some command
   pub sent : sent_on past ≡ Some link
-  pub in_form : client_reply command.kind prepared_handle e.sofar ≡ told past
+  pub in_form : client_reply command.kind (handle config past) e.sofar ≡ told past
   pub telling : Telling past
   pub its : IsAsked config command past
 
@@ -488,15 +459,15 @@ module _ (config : Config) (past : List Item) (link : ℕ) (e : Exchange) (comma
 
     -- what the client gets for it
     abbrev pub form : Payload
-    form = form_of its payload
+    form = form_of (handle config past) its payload
 
-    in_role_is : in_role (role command.kind e.sofar payload) prepared_handle payload ≡ form
+    in_role_is : in_role (role command.kind e.sofar payload) (handle config past) payload ≡ form
     in_role_is = let r : role command.kind e.sofar payload ≡ Some its = rw next.kind at r in rw r refl
 
-    pub grown : client_reply command.kind prepared_handle (e.sofar ++ payload ∷ []) ≡ told past ++ form ∷ []
+    pub grown : client_reply command.kind (handle config past) (e.sofar ++ payload ∷ []) ≡ told past ++ form ∷ []
     grown =
-        client_replies_grow command.kind prepared_handle e.sofar payload
-        ∙ ap (λ (last : Payload). client_reply command.kind prepared_handle e.sofar ++ last ∷ []) in_role_is
+        client_replies_grow command.kind (handle config past) e.sofar payload
+        ∙ ap (λ (last : Payload). client_reply command.kind (handle config past) e.sofar ++ last ∷ []) in_role_is
         ∙ ap (λ (list : List Payload). list ++ form ∷ []) next.in_form
 
     came_is : came_on link (Comes link said ∷ past) ≡ e.sofar ++ payload ∷ []
@@ -507,7 +478,7 @@ module _ (config : Config) (past : List Item) (link : ℕ) (e : Exchange) (comma
       came = refl;
       has = next.arrived.has;
       of_reply = of_reply said;
-      in_form = sym (ap (client_reply command.kind prepared_handle) came_is ∙ grown);
+      in_form = sym (ap (client_reply command.kind (handle config past)) came_is ∙ grown);
       counts = next.its.counts;
     }
 
@@ -522,6 +493,13 @@ module _ (config : Config) (past : List Item) (link : ℕ) (e : Exchange) (comma
     abbrev its_form : Payload
     its_form = form its (Ends outcome) r p
 
+    -- how it ended, and what it told of
+    abbrev pub its_ending : Ending
+    its_ending = record { outcome = outcome; named = named_in its payload (named_on link past) }
+
+    named_now : its_ending.named ≡ named_on link (Comes link whole ∷ past)
+    named_now = sym (rw (itself past link e payload rest number next.arrived) refl)
+
     ends_so : IsReply command.kind (came_on link (Comes link whole ∷ past)) outcome
     ends_so =
         let reply = ((progress_is_exact e.kind e.sofar payload).whole outcome).0 p in
@@ -532,34 +510,35 @@ module _ (config : Config) (past : List Item) (link : ℕ) (e : Exchange) (comma
     a_byte = byte_behind config past link e payload rest number next.arrived its outcome r p
 
     -- the session is kept on the link, and gives up the others
-    keeping_caused : HasSet command outcome (Comes link whole ∷ past) × (config.history_limit ≤ length (accepted past)) → Caused config
+    keeping_caused : HasSet command outcome (Comes link whole ∷ past) × (config.history_limit ≤ length (statements config (Comes link whole ∷ past)).history) → Caused config
         (after_keeping true link (kept_on past) (links past) ++ unasked link (is_some_byte rest))
-        (Puts (Tells (reply_number past) (Passes link command its_form (Some outcome) Keeps)) ∷ Comes link whole ∷ past)
+        (Puts (Tells (reply_number past) (Passes link command its_form (Some its_ending) Keeps)) ∷ Comes link whole ∷ past)
     keeping_caused its_full =
         subst (λ (kept : Option ℕ). Caused config (after_keeping true link kept (links past) ++ unasked link (is_some_byte rest))
-        (Puts (Tells (reply_number past) (Passes link command its_form (Some outcome) Keeps)) ∷ Comes link whole ∷ past)) (sym its_full.0.free)
-        (others_caused config past (Puts (Tells (reply_number past) (Passes link command its_form (Some outcome) Keeps)) ∷ Comes link whole ∷ past) link
+        (Puts (Tells (reply_number past) (Passes link command its_form (Some its_ending) Keeps)) ∷ Comes link whole ∷ past)) (sym its_full.0.free)
+        (others_caused config past (Puts (Tells (reply_number past) (Passes link command its_form (Some its_ending) Keeps)) ∷ Comes link whole ∷ past) link
         (unasked link (is_some_byte rest)) refl (fills its_full)
-        (unasked_stays config (Puts (Tells (reply_number past) (Passes link command its_form (Some outcome) Keeps)) ∷ Comes link whole ∷ past) link (is_some_byte rest)
-        (unasked_told config (Comes link whole ∷ past) link (is_some_byte rest) (reply_number past) (Passes link command its_form (Some outcome) Keeps) a_byte)))
+        (unasked_stays config (Puts (Tells (reply_number past) (Passes link command its_form (Some its_ending) Keeps)) ∷ Comes link whole ∷ past) link (is_some_byte rest)
+        (unasked_told config (Comes link whole ∷ past) link (is_some_byte rest) (reply_number past) (Passes link command its_form (Some its_ending) Keeps) a_byte)))
 
     ended_caused : (recording : Recording) → IsRecorded config command outcome recording (Comes link whole ∷ past)
-        → Caused config (Tells (reply_number past) (Passes link command its_form (Some outcome) recording) ∷ unasked link (is_some_byte rest)) (Comes link whole ∷ past)
+        → Caused config (Tells (reply_number past) (Passes link command its_form (Some its_ending) recording) ∷ unasked link (is_some_byte rest)) (Comes link whole ∷ past)
     ended_caused Nothing its_recorded =
-        tells (is_passed its (Ends outcome) r p, ends_so, owes_then its (Ends outcome) r p, its_recorded)
-        (unasked_told config (Comes link whole ∷ past) link (is_some_byte rest) (reply_number past) (Passes link command its_form (Some outcome) Nothing) a_byte)
+        tells (is_passed its (Ends outcome) r p, ends_so, owes_then its (Ends outcome) r p, its_recorded, named_now)
+        (unasked_told config (Comes link whole ∷ past) link (is_some_byte rest) (reply_number past) (Passes link command its_form (Some its_ending) Nothing) a_byte)
     ended_caused Accepts its_recorded =
-        tells (is_passed its (Ends outcome) r p, ends_so, owes_then its (Ends outcome) r p, its_recorded)
-        (unasked_told config (Comes link whole ∷ past) link (is_some_byte rest) (reply_number past) (Passes link command its_form (Some outcome) Accepts) a_byte)
+        tells (is_passed its (Ends outcome) r p, ends_so, owes_then its (Ends outcome) r p, its_recorded, named_now)
+        (unasked_told config (Comes link whole ∷ past) link (is_some_byte rest) (reply_number past) (Passes link command its_form (Some its_ending) Accepts) a_byte)
     ended_caused Keeps its_recorded =
-        tells (is_passed its (Ends outcome) r p, ends_so, owes_then its (Ends outcome) r p, its_recorded) (keeping_caused its_recorded)
+        tells (is_passed its (Ends outcome) r p, ends_so, owes_then its (Ends outcome) r p, its_recorded, named_now) (keeping_caused its_recorded)
 
   pub reply_caused : (its : Role) (far : Progress) (r : role e.kind e.sofar payload ≡ Some its) (p : progress e.kind e.sofar payload ≡ Some far)
-      → Caused config (after_answer link command (form its far r p) far (is_some_byte rest) (reply_number past) (λ outcome. recording_of config past outcome))
+      → Caused config (after_answer link command (form its far r p) (named_in its payload (named_on link past)) far (is_some_byte rest) (reply_number past) (λ outcome. recording_of config link past outcome))
       (Comes link (said its far r p) ∷ past)
   reply_caused its More r p =
       let begins = (progress_is_exact e.kind e.sofar payload).more.0 p in
       let begins : Begins command.kind (e.sofar ++ payload ∷ []) = rw next.kind at begins in
       tells (is_passed its More r p, subst (Begins command.kind) (sym (came_is its More r p)) begins) nothing
   reply_caused its (Ends outcome) r p =
-      ended_caused its outcome r p (recording_of config past outcome) (recorded config command outcome link (said its (Ends outcome) r p) past next.pending)
+      ended_caused its outcome r p (recording_of config link past outcome)
+      (recorded config command next.id link past payload its outcome number (is_some_byte rest) next.pending next.asked_it)

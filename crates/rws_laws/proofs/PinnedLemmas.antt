@@ -6,11 +6,12 @@ use Rattle.rws_config.specs.declared.config.Config.{Config}
 use Rattle.rws_reply.specs.declared.kind.Outcome.{Outcome}
 use Rattle.rws_record.specs.Item.{Item}
 use Rattle.rws_record.specs.Item.Item.{Accepted, TurnsAway, Began, ClientBytes, LinkReady, LinkBytes, ClientGone, LinkLost, Ticks, Routed, Comes, Connects, Takes, Floods, Puts, Starves}
-use Rattle.rws_record.specs.Item.Put.{Hands, Tells, Routes, Opens, LogsInto, Sends, Drops, Closes}
+use Rattle.rws_record.specs.Item.Put.{Hands, Tells, Routes, Opens, LogsInto, Sends, Forgets, Drops, Closes}
 use Rattle.rws_record.specs.Item.Purpose.{Prepares, Asks, Plays}
 use Rattle.rws_record.specs.Item.Recording.{Nothing, Accepts, Keeps}
 use Rattle.rws_record.specs.Item.Tell.{Passes, Owns, Refuses}
-use Rattle.rws_record.specs.Values.{answer_to, answered_by, class_by_pending, class_of_command, goes_on, keeps, kept_by, kept_on, or_link, pending, pinned, routing, sent_on, speaks, transaction}
+use Rattle.rws_commands.specs.Commands.{class_of_command, keeps}
+use Rattle.rws_record.specs.Values.{answer_to, answered_by, class_by_pending, goes_on, kept_by, kept_on, or_link, pending, pinned, routing, sent_on, speaks, transaction}
 use Rattle.rws_laws.specs.Causes.{AreCaused}
 use Rattle.rws_laws.specs.Laws.{PinnedTakesNoRoute, StaysOnItsLink}
 use Rattle.rws_laws.proofs.CausesLemmas.{causes}
@@ -60,9 +61,9 @@ sent_goes config (Puts (Drops gone cause) ∷ past) caused = lost_goes config pa
 sent_goes config (Routed words loads next found ∷ past) caused = λ link s.
     absurd (routed_sent config past link (asked_nowhere config past caused.1.0 caused.1.1 caused.2) (sent_goes config past caused.2) s)
 sent_goes config (Takes it number ∷ past) caused = λ link s. absurd cc
-sent_goes config (Puts (Sends to (Asks command)) ∷ past) caused = λ link s.
+sent_goes config (Puts (Sends to (Asks command id)) ∷ past) caused = λ link s.
     goes_then (class_of_command command) to (kept_on past) (transaction config past).link (routing config past).assigned caused.0.2 ∙ s
-sent_goes config (Puts (Tells number (Passes from command payload (Some outcome) recording)) ∷ past) caused = λ link s. absurd cc
+sent_goes config (Puts (Tells number (Passes from command payload (Some its) recording)) ∷ past) caused = λ link s. absurd cc
 sent_goes config (Puts (Tells number (Passes from command payload None recording)) ∷ past) caused = sent_goes config past caused.1
 sent_goes config (Puts (Tells number (Owns status)) ∷ past) caused = sent_goes config past caused.1
 sent_goes config (Puts (Tells number (Refuses error)) ∷ past) caused = λ link s.
@@ -82,9 +83,10 @@ sent_goes config (Starves made number ∷ past) caused = sent_goes config past c
 sent_goes config (Puts (Hands packets) ∷ past) caused = sent_goes config past caused.1
 sent_goes config (Puts Routes ∷ past) caused = sent_goes config past caused.1
 sent_goes config (Puts (Opens link server login) ∷ past) caused = sent_goes config past caused.1
+sent_goes config (Puts (Forgets link id) ∷ past) caused = sent_goes config past caused.1
 sent_goes config (Puts (LogsInto link packets) ∷ past) caused = sent_goes config past caused.1
 sent_goes config (Puts (Sends link Prepares) ∷ past) caused = sent_goes config past caused.1
-sent_goes config (Puts (Sends link (Plays command)) ∷ past) caused = sent_goes config past caused.1
+sent_goes config (Puts (Sends link (Plays entry)) ∷ past) caused = sent_goes config past caused.1
 sent_goes config (Puts (Closes reason) ∷ past) caused = sent_goes config past caused.1
 
 -- The link that the session is kept on and that of its transaction are one
@@ -114,7 +116,7 @@ module _ (config : Config) (past : List Item) (link : ℕ) (outcome : Outcome) (
   -- the session isn't kept, or is kept there already
   pub open_there : (there : ℕ) → behind ≡ Some there → link ≡ there
   open_there there e =
-      elim (answered_there its (answer_to (pending past) link outcome) (transaction config past) there e) [
+      elim (answered_there its (answer_to (pending past) link outcome (transaction config past).state) (transaction config past) there e) [
         | inl before ↦ by_kept before (kept_on past) refl
         | inr same ↦ same
       ]
@@ -137,15 +139,15 @@ module _ (config : Config) (past : List Item) (link : ℕ) (outcome : Outcome) (
 
 pub agree : (config : Config) (past : List Item) → AreCaused config past → Agree (kept_on past) (transaction config past).link
 agree config [] caused = λ link there k h. absurd cc
-agree config (Puts (Sends to (Asks command)) ∷ past) caused =
+agree config (Puts (Sends to (Asks command id)) ∷ past) caused =
     sent_agree (class_of_command command) to (kept_on past) (transaction config past).link (routing config past).assigned caused.0.2
     (agree config past caused.1)
-agree config (Puts (Tells number (Passes from command payload (Some outcome) Keeps)) ∷ past) caused =
-    filled_agree config past from outcome (sent_goes config past caused.1 from caused.0.0.of_reply.sent) (agree config past caused.1)
-agree config (Puts (Tells number (Passes from command payload (Some outcome) Accepts)) ∷ past) caused =
-    kept_agree config past from outcome (sent_goes config past caused.1 from caused.0.0.of_reply.sent) (agree config past caused.1)
-agree config (Puts (Tells number (Passes from command payload (Some outcome) Nothing)) ∷ past) caused =
-    kept_agree config past from outcome (sent_goes config past caused.1 from caused.0.0.of_reply.sent) (agree config past caused.1)
+agree config (Puts (Tells number (Passes from command payload (Some its) Keeps)) ∷ past) caused =
+    filled_agree config past from its.outcome (sent_goes config past caused.1 from caused.0.0.of_reply.sent) (agree config past caused.1)
+agree config (Puts (Tells number (Passes from command payload (Some its) Accepts)) ∷ past) caused =
+    kept_agree config past from its.outcome (sent_goes config past caused.1 from caused.0.0.of_reply.sent) (agree config past caused.1)
+agree config (Puts (Tells number (Passes from command payload (Some its) Nothing)) ∷ past) caused =
+    kept_agree config past from its.outcome (sent_goes config past caused.1 from caused.0.0.of_reply.sent) (agree config past caused.1)
 agree config (Puts (Tells number (Passes from command payload None recording)) ∷ past) caused = agree config past caused.1
 agree config (Puts (Tells number (Owns status)) ∷ past) caused = agree config past caused.1
 agree config (Puts (Tells number (Refuses error)) ∷ past) caused = agree config past caused.1
@@ -167,15 +169,16 @@ agree config (Starves made number ∷ past) caused = agree config past caused.3
 agree config (Puts (Hands packets) ∷ past) caused = agree config past caused.1
 agree config (Puts Routes ∷ past) caused = agree config past caused.1
 agree config (Puts (Opens link server login) ∷ past) caused = agree config past caused.1
+agree config (Puts (Forgets link id) ∷ past) caused = agree config past caused.1
 agree config (Puts (LogsInto link packets) ∷ past) caused = agree config past caused.1
 agree config (Puts (Sends link Prepares) ∷ past) caused = agree config past caused.1
-agree config (Puts (Sends link (Plays command)) ∷ past) caused = agree config past caused.1
+agree config (Puts (Sends link (Plays entry)) ∷ past) caused = agree config past caused.1
 agree config (Puts (Drops link cause) ∷ past) caused = agree config past caused.1
 agree config (Puts (Closes reason) ∷ past) caused = agree config past caused.1
 
 pub stays_on_its_link : StaysOnItsLink
-stays_on_its_link config past link there command legal its =
-    let caused = causes config (Puts (Sends link (Asks command)) ∷ past) legal in by_link caused.0.2 (agree config past caused.1) its
+stays_on_its_link config past link there command id legal its =
+    let caused = causes config (Puts (Sends link (Asks command id)) ∷ past) legal in by_link caused.0.2 (agree config past caused.1) its
   where
     kept_there : goes_on config past ≡ Some link → (kept : ℕ) → kept_on past ≡ Some kept → kept ≡ link
     kept_there g kept k =

@@ -16,7 +16,7 @@ use Rattle.rws_link.specs.declared.step.LinkStep.TheVariants as steps
 use Rattle.rws_link.specs.Stepping.{LinkState, Awaits, Exchange}
 use Rattle.rws_record.specs.Item.{Item, Purpose, Put}
 use Rattle.rws_record.specs.Item.Item.{Accepted, TurnsAway, Began, ClientBytes, LinkReady, LinkBytes, ClientGone, LinkLost, Ticks, Comes, Puts}
-use Rattle.rws_record.specs.Item.Put.{Hands, Tells, Routes, Opens, LogsInto, Sends, Drops, Closes}
+use Rattle.rws_record.specs.Item.Put.{Hands, Tells, Routes, Opens, LogsInto, Sends, Forgets, Drops, Closes}
 use Rattle.rws_record.specs.Item.Purpose.{Prepares, Asks, Plays}
 use Rattle.rws_record.specs.Values.{asked_on, awaited, is_up, kind_of, linked, prepared_by}
 use Rattle.rws_record.specs.Record.{IsBeginning, IsInput, IsRecord}
@@ -25,7 +25,7 @@ use Rattle.rws_record.proofs.LinkedLemmas.{Says, awaits_asked}
 use Rattle.rws_record.proofs.LinkedLemmas.Says.{answers, enters, hurries, fails, breaks, part, garbled, wrong, again}
 use Rattle.rws_record.proofs.StepLemmas.{Due, Step, of_next}
 use Rattle.rws_record.proofs.StepLemmas.Due.{comes, connects, takes}
-use Rattle.rws_record.proofs.StepLemmas.Step.{pays, asks, prepares, plays, sends, floods, reads}
+use Rattle.rws_record.proofs.StepLemmas.Step.{pays, asks, prepares, forgets, plays, sends, floods, reads}
 use Rattle.rws_laws.specs.Servers.{WasPrepared, came_on}
 use Rattle.rws_laws.specs.Servers.WasPrepared.{with_session, as_ready, by_reply, since}
 use Rattle.rws_laws.proofs.CameLemmas.{Came, legal_came}
@@ -58,7 +58,7 @@ module _ (past : List Item) (from : ℕ) (came : Came past) (before : ArePrepare
     part_now More asked p a u = since (before from u)
     part_now (Ends (Failed code)) asked p a u = since (before from u)
     part_now (Ends (Done status)) None p a u = since (before from u)
-    part_now (Ends (Done status)) (Some (Asks command)) p a u = since (before from u)
+    part_now (Ends (Done status)) (Some (Asks command id)) p a u = since (before from u)
     part_now (Ends (Done status)) (Some (Plays command)) p a u = since (before from u)
     part_now (Ends (Done status)) (Some Prepares) p a u = whole_now status p a
 
@@ -98,6 +98,7 @@ put_prepared past (Opens opened server login) before = λ link u. by_test link (
 put_prepared past (Hands packets) before = λ link u. since (before link u)
 put_prepared past (Tells number tell) before = λ link u. since (before link u)
 put_prepared past Routes before = λ link u. since (before link u)
+put_prepared past (Forgets to id) before = λ link u. since (before link u)
 put_prepared past (LogsInto to packets) before = λ link u. since (before link u)
 put_prepared past (Sends to purpose) before = λ link u. since (before link u)
 put_prepared past (Drops gone cause) before = λ link u. since (before link u)
@@ -114,8 +115,9 @@ step_prepared : {config : Config} {past : List Item} {item : Item} → Step conf
 step_prepared {past = past} (pays {put = put} o) came before = put_prepared past put before
 step_prepared {past = past} (asks o n p k l) came before = put_prepared past Routes before
 step_prepared {past = past} (prepares {link = to} o n k c) came before = put_prepared past (Sends to Prepares) before
-step_prepared {past = past} (plays {link = to} {command = command} o n k c s) came before = put_prepared past (Sends to (Plays command)) before
-step_prepared {past = past} (sends {link = to} {command = command} o n p s k c d) came before = put_prepared past (Sends to (Asks command)) before
+step_prepared {past = past} (plays {link = to} {entry = entry} o n k c t s) came before = put_prepared past (Sends to (Plays entry)) before
+step_prepared {past = past} (sends {link = to} {command = command} {id = id} o n p s k c t d i) came before = put_prepared past (Sends to (Asks command id)) before
+step_prepared (forgets o n has f t) came before = λ link u. since (before link u)
 step_prepared (floods o n p above) came before = λ link u. since (before link u)
 step_prepared (reads o n due) came before = due_prepared due came before
 

@@ -14,13 +14,13 @@ use Rattle.rws_route.specs.declared.destination.Target.TheVariants.{Primary, Rep
 use Rattle.rws_routing.specs.declared.routing.Routing.{Routing}
 use Rattle.rws_routing.specs.Routings.{is_at, lost, tried_by}
 use Rattle.rws_config.specs.declared.config.Config.{Config}
-use Rattle.rws_record.specs.declared.command.Command.{Command}
+use Rattle.rws_commands.specs.declared.command.Command.{Command}
 use Rattle.rws_link.specs.Stepping.{Exchange}
 use Rattle.rws_record.specs.Item.{Item, Purpose, Put}
 use Rattle.rws_record.specs.Item.Item.{Puts}
 use Rattle.rws_record.specs.Item.Recording.{Nothing}
 use Rattle.rws_record.specs.Item.Tell.{Passes, Owns, Refuses}
-use Rattle.rws_record.specs.Item.Put.{Hands, Tells, Routes, Opens, LogsInto, Sends, Drops, Closes}
+use Rattle.rws_record.specs.Item.Put.{Hands, Tells, Routes, Opens, LogsInto, Sends, Forgets, Drops, Closes}
 use Rattle.rws_record.specs.Values.{contains, or_link, pending, reply_number, told, unless_link, without}
 use Rattle.rws_record.specs.Rules.{Loss, after_keeping, after_loss_by, after_route, is_loss, loss_of, after_loss, opening, owed, refusing, ending}
 use Rattle.rws_record.proofs.WithoutLemmas.{without_has_less}
@@ -143,13 +143,14 @@ told_without gone n all = all
 -- What is awaited
 
 -- what is owed passes the same payloads
-pub passes_same : {link : ℕ} {e : Exchange} {asked : Option Purpose} {up : Bool} {pending : Option Command} {sent : Option ℕ} {told : List Payload}
-    (owing now : List Put) → passed owing ≡ passed now → WaitsOn link e asked up pending sent told owing
-    → WaitsOn link e asked up pending sent told now
+pub passes_same : {link : ℕ} {e : Exchange} {asked : Option Purpose} {up : Bool} {pending : Option Command} {sent : Option ℕ} {handle : ℕ} {told : List Payload}
+    (owing now : List Put) → passed owing ≡ passed now → WaitsOn link e asked up pending sent handle told owing
+    → WaitsOn link e asked up pending sent handle told now
 passes_same owing now same (prepares a u) = prepares a u
 passes_same owing now same (repeats a) = repeats a
 passes_same {told = list} owing now same (replies awaited) = replies (record {
   command = awaited.command;
+  id = awaited.id;
   asked_it = awaited.asked_it;
   kind = awaited.kind;
   in_form = awaited.in_form ∙ ap (λ (more : List Payload). list ++ more) same;
@@ -157,19 +158,20 @@ passes_same {told = list} owing now same (replies awaited) = replies (record {
   sent_there = awaited.sent_there;
 })
 
-pub owes_same : {exchange : ℕ → Option Exchange} {asked : ℕ → Option Purpose} {up : ℕ → Bool} {pending : Option Command} {sent : Option ℕ} {told : List Payload}
+pub owes_same : {exchange : ℕ → Option Exchange} {asked : ℕ → Option Purpose} {up : ℕ → Bool} {pending : Option Command} {sent : Option ℕ} {handle : ℕ} {told : List Payload}
     (links : List ℕ) (owing now : List Put) → passed owing ≡ passed now
-    → WaitsBy links exchange asked up pending sent told owing → WaitsBy links exchange asked up pending sent told now
+    → WaitsBy links exchange asked up pending sent handle told owing → WaitsBy links exchange asked up pending sent handle told now
 owes_same {told = list} links owing now same waits = λ link e has a. passes_same owing now same (waits link e has a)
 
 -- on the links that are left when one is lost
-still_there : {link : ℕ} {e : Exchange} {asked : Option Purpose} {up : Bool} {pending : Option Command} {sent : Option ℕ} {told : List Payload}
-    (gone : ℕ) (owing now : List Put) → passed owing ≡ passed now → (link == gone) ≡ false → WaitsOn link e asked up pending sent told owing
-    → WaitsOn link e asked up pending (unless_link gone sent) told now
+still_there : {link : ℕ} {e : Exchange} {asked : Option Purpose} {up : Bool} {pending : Option Command} {sent : Option ℕ} {handle : ℕ} {told : List Payload}
+    (gone : ℕ) (owing now : List Put) → passed owing ≡ passed now → (link == gone) ≡ false → WaitsOn link e asked up pending sent handle told owing
+    → WaitsOn link e asked up pending (unless_link gone sent) handle told now
 still_there gone owing now same n (prepares a u) = prepares a u
 still_there gone owing now same n (repeats a) = repeats a
 still_there {link = link} {sent = sent} {told = list} gone owing now same n (replies awaited) = replies (record {
   command = awaited.command;
+  id = awaited.id;
   asked_it = awaited.asked_it;
   kind = awaited.kind;
   in_form = awaited.in_form ∙ ap (λ (more : List Payload). list ++ more) same;
@@ -177,9 +179,9 @@ still_there {link = link} {sent = sent} {told = list} gone owing now same n (rep
   sent_there = unless_other gone link sent awaited.sent_there n;
 })
 
-pub without_waits : {exchange : ℕ → Option Exchange} {asked : ℕ → Option Purpose} {up : ℕ → Bool} {pending : Option Command} {sent : Option ℕ} {told : List Payload}
-    (links : List ℕ) (gone : ℕ) (owing now : List Put) → passed owing ≡ passed now → WaitsBy links exchange asked up pending sent told owing
-    → WaitsBy (without gone links) exchange asked up pending (unless_link gone sent) told now
+pub without_waits : {exchange : ℕ → Option Exchange} {asked : ℕ → Option Purpose} {up : ℕ → Bool} {pending : Option Command} {sent : Option ℕ} {handle : ℕ} {told : List Payload}
+    (links : List ℕ) (gone : ℕ) (owing now : List Put) → passed owing ≡ passed now → WaitsBy links exchange asked up pending sent handle told owing
+    → WaitsBy (without gone links) exchange asked up pending (unless_link gone sent) handle told now
 without_waits links gone owing now same waits = λ link e has a.
     still_there gone owing now same (stays_other gone link links has) (waits link e (without_has_less gone link links has) a)
 
@@ -191,6 +193,7 @@ passed_both (Tells number (Refuses error) ∷ rest) others = passed_both rest ot
 passed_both (Hands packets ∷ rest) others = passed_both rest others
 passed_both (Routes ∷ rest) others = passed_both rest others
 passed_both (Opens link server login ∷ rest) others = passed_both rest others
+passed_both (Forgets link id ∷ rest) others = passed_both rest others
 passed_both (LogsInto link packets ∷ rest) others = passed_both rest others
 passed_both (Sends link purpose ∷ rest) others = passed_both rest others
 passed_both (Drops link cause ∷ rest) others = passed_both rest others
@@ -250,22 +253,22 @@ farewells_pass [] = refl
 farewells_pass (link ∷ others) = farewells_pass others
 
 -- only the preamble's reply, or that to an entry of the history, was awaited, since nothing is pending
-pub none_waits : {link : ℕ} {e : Exchange} {asked : Option Purpose} {up : Bool} {pending : Option Command} {sent : Option ℕ} {told : List Payload}
-    {owed : List Put} (now : Option Command) (where_now : Option ℕ) (list : List Payload) (owes : List Put)
-    → pending ≡ None → WaitsOn link e asked up pending sent told owed → WaitsOn link e asked up now where_now list owes
-none_waits now where_now list owes p (prepares a u) = prepares a u
-none_waits now where_now list owes p (repeats a) = repeats a
-none_waits now where_now list owes p (replies awaited) = let w = awaited.waits in absurd cc
+pub none_waits : {link : ℕ} {e : Exchange} {asked : Option Purpose} {up : Bool} {pending : Option Command} {sent : Option ℕ} {handle : ℕ} {told : List Payload}
+    {owed : List Put} (now : Option Command) (where_now : Option ℕ) (at : ℕ) (list : List Payload) (owes : List Put)
+    → pending ≡ None → WaitsOn link e asked up pending sent handle told owed → WaitsOn link e asked up now where_now at list owes
+none_waits now where_now at list owes p (prepares a u) = prepares a u
+none_waits now where_now at list owes p (repeats a) = repeats a
+none_waits now where_now at list owes p (replies awaited) = let w = awaited.waits in absurd cc
 
-pub waits_none : {exchange : ℕ → Option Exchange} {asked : ℕ → Option Purpose} {up : ℕ → Bool} {pending : Option Command} {sent : Option ℕ} {told : List Payload}
-    {owed : List Put} (links : List ℕ) (now : Option Command) (where_now : Option ℕ) (list : List Payload) (owes : List Put)
-    → pending ≡ None → WaitsBy links exchange asked up pending sent told owed → WaitsBy links exchange asked up now where_now list owes
-waits_none links now where_now list owes p waits = λ link e has a. none_waits now where_now list owes p (waits link e has a)
+pub waits_none : {exchange : ℕ → Option Exchange} {asked : ℕ → Option Purpose} {up : ℕ → Bool} {pending : Option Command} {sent : Option ℕ} {handle : ℕ} {told : List Payload}
+    {owed : List Put} (links : List ℕ) (now : Option Command) (where_now : Option ℕ) (at : ℕ) (list : List Payload) (owes : List Put)
+    → pending ≡ None → WaitsBy links exchange asked up pending sent handle told owed → WaitsBy links exchange asked up now where_now at list owes
+waits_none links now where_now at list owes p waits = λ link e has a. none_waits now where_now at list owes p (waits link e has a)
 
 -- and since nothing was sent
-pub unsent_waits : {link : ℕ} {e : Exchange} {asked : Option Purpose} {up : Bool} {pending : Option Command} {sent : Option ℕ} {told : List Payload}
-    {owed : List Put} (now : Option Command) (where_now : Option ℕ) (list : List Payload) (owes : List Put)
-    → sent ≡ None → WaitsOn link e asked up pending sent told owed → WaitsOn link e asked up now where_now list owes
-unsent_waits now where_now list owes s (prepares a u) = prepares a u
-unsent_waits now where_now list owes s (repeats a) = repeats a
-unsent_waits now where_now list owes s (replies awaited) = let there = awaited.sent_there in absurd cc
+pub unsent_waits : {link : ℕ} {e : Exchange} {asked : Option Purpose} {up : Bool} {pending : Option Command} {sent : Option ℕ} {handle : ℕ} {told : List Payload}
+    {owed : List Put} (now : Option Command) (where_now : Option ℕ) (at : ℕ) (list : List Payload) (owes : List Put)
+    → sent ≡ None → WaitsOn link e asked up pending sent handle told owed → WaitsOn link e asked up now where_now at list owes
+unsent_waits now where_now at list owes s (prepares a u) = prepares a u
+unsent_waits now where_now at list owes s (repeats a) = repeats a
+unsent_waits now where_now at list owes s (replies awaited) = let there = awaited.sent_there in absurd cc

@@ -11,12 +11,12 @@ use Rattle.rws_route.specs.declared.destination.Target.TheVariants.{Primary, Rep
 use Rattle.rws_routing.specs.declared.routing.Routing.{Routing}
 use Rattle.rws_routing.specs.Routings.{finds_late, is_at, is_late, or_number, server_in, tried_by}
 use Rattle.rws_config.specs.declared.config.Config.{Config}
-use Rattle.rws_record.specs.declared.command.Command.{Command}
-use Rattle.rws_record.specs.declared.proxy_error.ProxyError.{ProxyError}
-use Rattle.rws_record.specs.declared.proxy_error.ProxyError.TheVariants.{UnknownCommand, NotSupported, UnknownStatement, BadExecute, TooManyStatements, NotInReadOnly, TooManyConnections, CommandTooLarge, NoPrimary, OutOfMemory}
+use Rattle.rws_commands.specs.declared.command.Command.{Command}
+use Rattle.rws_commands.specs.declared.proxy_error.ProxyError.{ProxyError}
+use Rattle.rws_commands.specs.declared.proxy_error.ProxyError.TheVariants.{UnknownCommand, NotSupported, UnknownStatement, BadExecute, TooManyStatements, NotInReadOnly, TooManyConnections, CommandTooLarge, NoPrimary, OutOfMemory}
 use Rattle.rws_record.specs.Item.{Item}
 use Rattle.rws_record.specs.Item.Item.{Accepted, TurnsAway, Began, ClientBytes, LinkReady, LinkBytes, ClientGone, LinkLost, Ticks, Routed, Comes, Connects, Takes, Floods, Puts, Starves}
-use Rattle.rws_record.specs.Item.Put.{Hands, Tells, Routes, Opens, LogsInto, Sends, Drops, Closes}
+use Rattle.rws_record.specs.Item.Put.{Hands, Tells, Routes, Opens, LogsInto, Sends, Forgets, Drops, Closes}
 use Rattle.rws_record.specs.Item.Tell.{Passes, Owns, Refuses}
 use Rattle.rws_record.specs.Values.{contains, first_to, link_to, links, login_of, now, pending, reply_number, routing, sent_on, server_of, told}
 use Rattle.rws_record.specs.Rules.{after_route, opening, refusing}
@@ -79,6 +79,7 @@ waits_since config (Puts (Tells number (Passes link command payload outcome reco
 waits_since config (Puts (Tells number (Owns status)) ∷ past) = waits_since config past
 waits_since config (Puts Routes ∷ past) = waits_since config past
 waits_since config (Puts (Opens link server login) ∷ past) = waits_since config past
+waits_since config (Puts (Forgets link id) ∷ past) = waits_since config past
 waits_since config (Puts (LogsInto link packets) ∷ past) = waits_since config past
 waits_since config (Puts (Sends link purpose) ∷ past) = waits_since config past
 waits_since config (Puts (Closes reason) ∷ past) = waits_since config past
@@ -130,6 +131,7 @@ nowhere_last config (Puts (Tells number (Passes link command payload outcome rec
 nowhere_last config (Puts (Tells number (Owns status)) ∷ past) w = nowhere_last config past w
 nowhere_last config (Puts Routes ∷ past) w = nowhere_last config past w
 nowhere_last config (Puts (Opens link server login) ∷ past) w = nowhere_last config past w
+nowhere_last config (Puts (Forgets link id) ∷ past) w = nowhere_last config past w
 nowhere_last config (Puts (LogsInto link packets) ∷ past) w = nowhere_last config past w
 nowhere_last config (Puts (Sends link purpose) ∷ past) w = nowhere_last config past w
 nowhere_last config (Puts (Closes reason) ∷ past) w = nowhere_last config past w

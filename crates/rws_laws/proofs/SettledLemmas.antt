@@ -9,6 +9,7 @@ use Rattle.rws_trx.specs.declared.state.Course.TheVariants.{GoesOn, Begins, IsNo
 use Rattle.rws_trx.specs.declared.state.Open.{Open}
 use Rattle.rws_trx.specs.declared.state.Open.TheVariants.{Nothing as NotOpen, ReadWrite, ReadOnly}
 use Rattle.rws_trx.specs.declared.state.TrxState.{TrxState}
+use Rattle.rws_trx.specs.declared.transaction.Answer.{Answer}
 use Rattle.rws_trx.specs.declared.transaction.Transaction.{Transaction}
 use Rattle.rws_trx.specs.Transactions.{begins, begins_read_only, goes_on as stays_open, is_open, is_read_only as opens_read_only, is_transaction, shows_open}
 use Rattle.rws_trx.specs.OnLinks.{IsPlaced, answered, by_course}
@@ -17,11 +18,12 @@ use Rattle.rws_route.specs.declared.destination.Target.TheVariants.{Primary, Rep
 use Rattle.rws_route.specs.Targets.{may_leave_primary, only_reads}
 use Rattle.rws_routing.specs.Routings.{is_at, is_primary}
 use Rattle.rws_config.specs.declared.config.Config.{Config}
-use Rattle.rws_record.specs.declared.command.Command.{Command}
+use Rattle.rws_commands.specs.declared.command.Command.{Command}
 use Rattle.rws_record.specs.Item.{Item}
-use Rattle.rws_record.specs.Judging.{changes}
-use Rattle.rws_record.specs.Values.{answer_to, answered_by, answered_if, class_by_pending, class_of_command, goes_on, kept_on, or_link, pending, pinned, routing, sent_on, server_of, speaks, transaction}
-use Rattle.rws_record.specs.Rules.{is_full}
+use Rattle.rws_commands.specs.Judging.{changes}
+use Rattle.rws_commands.specs.Commands.{class_of_command}
+use Rattle.rws_record.specs.Values.{answer_to, answered_by, answered_if, class_by_pending, goes_on, kept_on, length_by, or_link, pending, prepares, shown_by, pinned, routing, sent_on, server_of, speaks, statements, transaction}
+use Rattle.rws_commands.specs.Statements.{is_full}
 use Rattle.rws_laws.specs.Causes.{IsAt, SetsSession, found_last}
 use Rattle.rws_laws.specs.Causes.IsAt.{primary, replica}
 use Rattle.rws_laws.specs.Causes.SetsSession.{sets, sets_autocommit, unsets_autocommit}
@@ -38,7 +40,7 @@ AtPrimary link past = found_lately past ≡ Some (Primary (server_of link past))
 pub record Settled (config : Config) (past : List Item) : Type 0 where
   -- while a read-only transaction is open, the pending command changes nothing
   pub bars : (command : Command) → pending past ≡ Some command → (transaction config past).state.opened ≡ ReadOnly
-      → changes (is_full config past) (class_of_command command) ≡ false
+      → changes (is_full config.history_limit (statements config past)) (class_of_command command) ≡ false
   -- it is routed to a replica only where it may leave the primary
   pub leaves : (command : Command) (server : ℕ) → pending past ≡ Some command → found_last past ≡ Some (Replica server)
       → may_leave_primary (class_of_command command) (transaction config past).state.autocommit false ≡ true
@@ -57,7 +59,7 @@ pub data Where (config : Config) (link : ℕ) (class : Class) (past : List Item)
   at_primary : AtPrimary link past → Where config link class past
   elsewhere : (server : ℕ) → pinned config past ≡ None → found_last past ≡ Some (Replica server)
       → may_leave_primary class (transaction config past).state.autocommit false ≡ true → Where config link class past
-  reading : (transaction config past).state.opened ≡ ReadOnly → changes (is_full config past) class ≡ false → Where config link class past
+  reading : (transaction config past).state.opened ≡ ReadOnly → changes (is_full config.history_limit (statements config past)) class ≡ false → Where config link class past
 
 module _ (config : Config) (past : List Item) (link : ℕ) (command : Command) (its : Settled config past) (w : pending past ≡ Some command)
     (g : goes_on config past ≡ Some link) (aimed : pinned config past ≡ None → Aimed link past) where
@@ -99,7 +101,7 @@ kept_at c (at_primary a) = a
 kept_at {class = class} {past = past} c (elsewhere server p f leave) =
     let clash : false ≡ true = sym (ap only_reads c) ∙ (both (only_reads class) _ leave).0 in absurd cc
 kept_at {config} {class = class} {past = past} c (reading o none) =
-    let clash : true ≡ false = sym (other_changes (is_full config past) class c) ∙ none in absurd cc
+    let clash : true ≡ false = sym (other_changes (is_full config.history_limit (statements config past)) class c) ∙ none in absurd cc
 
 -- and so does one that sets it, where the history is full
 
@@ -113,7 +115,7 @@ set_changes sets = refl
 set_changes sets_autocommit = refl
 set_changes unsets_autocommit = refl
 
-pub filled_at : {config : Config} {link : ℕ} {class : Class} {past : List Item} → SetsSession class → is_full config past ≡ true
+pub filled_at : {config : Config} {link : ℕ} {class : Class} {past : List Item} → SetsSession class → is_full config.history_limit (statements config past) ≡ true
     → Where config link class past → AtPrimary link past
 filled_at set full (at_primary a) = a
 filled_at {class = class} set full (elsewhere server p f leave) =
@@ -177,12 +179,16 @@ module _ (config : Config) (past : List Item) (link : ℕ) (class : Class) (stat
   opens_at g s ro speaking (reading o none) =
       let opened : is_open state ≡ true = ap is_transaction o in
       let begun : begins class ≡ true = negated (begins class) (only_left opened) in
-      let clash : true ≡ false = sym (begins_changes (is_full config past) class begun) ∙ none in absurd cc
+      let clash : true ≡ false = sym (begins_changes (is_full config.history_limit (statements config past)) class begun) ∙ none in absurd cc
     where
       only_left : is_open state ≡ true → not (begins class) ≡ false
       only_left opened = let left : not (begins class) ≡ false = rw (opened, s) at g in left
 
 -- A reply ends
+
+-- that to the pending command, which came on a link and showed this
+abbrev answer_with : Option Command → ℕ → Outcome → Answer
+answer_with command link shown = record { link = link; class = class_by_pending command; bytes = length_by command; outcome = shown }
 
 module _ (config : Config) (past : List Item) (link : ℕ) (found : Option Command) (its : Settled config past)
     (there : Where config link (class_by_pending found) past) (at : ℕ) where
@@ -207,17 +213,17 @@ module _ (config : Config) (past : List Item) (link : ℕ) (found : Option Comma
   by_status status false true false is_g is_s is_ro speaking e w =
       subst (λ (l : ℕ). AtPrimary l past) (same_some link at e) (opens_at config past link class status its is_g is_s is_ro speaking there)
 
-  by_outcome : (outcome : Outcome) → speaks (pinned config past) link class (routing config past) ≡ true
-      → (answered (answer_to found link outcome) t).link ≡ Some at → (answered (answer_to found link outcome) t).state.opened ≡ ReadWrite
+  by_shown : (outcome : Outcome) → speaks (pinned config past) link class (routing config past) ≡ true
+      → (answered (answer_with found link outcome) t).link ≡ Some at → (answered (answer_with found link outcome) t).state.opened ≡ ReadWrite
       → AtPrimary at past
-  by_outcome (Failed code) speaking e w = by_open (is_open t.state) e w
-  by_outcome (Done status) speaking e w =
+  by_shown (Failed code) speaking e w = by_open (is_open t.state) e w
+  by_shown (Done status) speaking e w =
       by_status status (stays_open class status t.state) (shows_open status) (opens_read_only class t.state) refl refl refl speaking e w
 
   by_speaking : (outcome : Outcome) (speaking : Bool) → speaks (pinned config past) link class (routing config past) ≡ speaking
-      → (answered_if speaking (answer_to found link outcome) t).link ≡ Some at
-      → (answered_if speaking (answer_to found link outcome) t).state.opened ≡ ReadWrite → AtPrimary at past
-  by_speaking outcome true s e w = by_outcome outcome s e w
+      → (answered_if speaking (answer_to found link outcome t.state) t).link ≡ Some at
+      → (answered_if speaking (answer_to found link outcome t.state) t).state.opened ≡ ReadWrite → AtPrimary at past
+  by_speaking outcome true s e w = by_shown (shown_by (prepares found) outcome t.state) s e w
   by_speaking outcome false s e w = its.writes at e w
 
   pub writes_then : (outcome : Outcome) → (answered_by (kept_on past) found link outcome (routing config past) t).link ≡ Some at
@@ -239,11 +245,11 @@ module _ (link : ℕ) (found : Option Command) (t : Transaction) (placed : IsPla
   done_placed false true true = refl
   done_placed false true false = refl
 
-  outcome_placed : (outcome : Outcome) → IsPlaced (answered (answer_to found link outcome) t)
-  outcome_placed (Failed code) = failed_placed (is_open t.state) refl
-  outcome_placed (Done status) =
+  shown_placed : (outcome : Outcome) → IsPlaced (answered (answer_with found link outcome) t)
+  shown_placed (Failed code) = failed_placed (is_open t.state) refl
+  shown_placed (Done status) =
       done_placed (stays_open (class_by_pending found) status t.state) (shows_open status) (opens_read_only (class_by_pending found) t.state)
 
-  pub answered_placed : (speaking : Bool) (outcome : Outcome) → IsPlaced (answered_if speaking (answer_to found link outcome) t)
-  answered_placed true outcome = outcome_placed outcome
+  pub answered_placed : (speaking : Bool) (outcome : Outcome) → IsPlaced (answered_if speaking (answer_to found link outcome t.state) t)
+  answered_placed true outcome = shown_placed (shown_by (prepares found) outcome t.state)
   answered_placed false outcome = placed

@@ -8,14 +8,16 @@ use Rattle.rws_native.specs.declared.login.Login.{Login}
 use Rattle.rws_reply.specs.Replies.{Payload}
 use Rattle.rws_reply.specs.ClientForm.{client_reply}
 use Rattle.rws_config.specs.declared.config.Config.{Config}
-use Rattle.rws_record.specs.declared.command.Command.{Command}
+use Rattle.rws_commands.specs.declared.command.Command.{Command}
+use Rattle.rws_commands.specs.declared.history.HistoryEntry.{HistoryEntry}
+use Rattle.rws_commands.specs.Statements.{next_handle}
 use Rattle.rws_link.specs.Stepping.{Exchange}
 use Rattle.rws_record.specs.Item.{Item, Purpose, Tell, Put}
 use Rattle.rws_record.specs.Item.Item.{Puts}
 use Rattle.rws_record.specs.Item.Tell.{Passes}
 use Rattle.rws_record.specs.Item.Put.{Hands, Tells, Opens, LogsInto, Drops, Closes}
 use Rattle.rws_record.specs.Item.Purpose.{Prepares, Asks, Plays}
-use Rattle.rws_record.specs.Values.{contains, goes_on, links, asked_on, exchange, is_up, prepared_handle, pending, sent_on, reply_number, told, told_from, is_over}
+use Rattle.rws_record.specs.Values.{contains, goes_on, links, asked_on, exchange, is_up, pending, sent_on, reply_number, statements, told, told_from, is_over}
 use Rattle.rws_record.specs.Rules.{follow, is_link, is_loss, owed}
 use Rattle.rws_record.proofs.WantLemmas.{closes_soon}
 use Rattle.rws_laws.specs.Client.{Asked}
@@ -92,32 +94,37 @@ passed (_ ∷ others) = passed others
 
 -- a reply that is awaited is the one to the pending command, and all that came of it was passed on in the client's form, or is
 -- about to be
-pub record AwaitedBy (link : ℕ) (e : Exchange) (asked : Option Purpose) (pending : Option Command) (sent : Option ℕ) (told : List Payload)
+pub record AwaitedBy (link : ℕ) (e : Exchange) (asked : Option Purpose) (pending : Option Command) (sent : Option ℕ) (handle : ℕ) (told : List Payload)
     (owed : List Put) : Type 0 where
   pub command : Command
-  pub asked_it : asked ≡ Some (Asks command)
+  pub id : Option ℕ
+  pub asked_it : asked ≡ Some (Asks command id)
   pub kind : e.kind ≡ command.kind
-  pub in_form : client_reply command.kind prepared_handle e.sofar ≡ told ++ passed owed
+  pub in_form : client_reply command.kind handle e.sofar ≡ told ++ passed owed
   pub waits : pending ≡ Some command
   pub sent_there : sent ≡ Some link
 
 -- a reply that is awaited on a link that the session has is that to the preamble, on a link that isn't prepared, that to an entry of the
 -- history, or that to the pending command
 pub data WaitsOn (link : ℕ) (e : Exchange) (asked : Option Purpose) (up : Bool) (pending : Option Command) (sent : Option ℕ)
-    (told : List Payload) (owed : List Put) : Type 0 where
-  prepares : asked ≡ Some Prepares → up ≡ false → WaitsOn link e asked up pending sent told owed
-  repeats : {command : Command} → asked ≡ Some (Plays command) → WaitsOn link e asked up pending sent told owed
-  replies : AwaitedBy link e asked pending sent told owed → WaitsOn link e asked up pending sent told owed
+    (handle : ℕ) (told : List Payload) (owed : List Put) : Type 0 where
+  prepares : asked ≡ Some Prepares → up ≡ false → WaitsOn link e asked up pending sent handle told owed
+  repeats : {entry : HistoryEntry} → asked ≡ Some (Plays entry) → WaitsOn link e asked up pending sent handle told owed
+  replies : AwaitedBy link e asked pending sent handle told owed → WaitsOn link e asked up pending sent handle told owed
 
-abbrev pub WaitsBy : List ℕ → (ℕ → Option Exchange) → (ℕ → Option Purpose) → (ℕ → Bool) → Option Command → Option ℕ → List Payload → List Put
+abbrev pub WaitsBy : List ℕ → (ℕ → Option Exchange) → (ℕ → Option Purpose) → (ℕ → Bool) → Option Command → Option ℕ → (handle : ℕ) → List Payload → List Put
     → Type 0
-WaitsBy links exchange asked up pending sent told owed =
-    (link : ℕ) (e : Exchange) → contains link links ≡ true → exchange link ≡ Some e → WaitsOn link e (asked link) (up link) pending sent told owed
+WaitsBy links exchange asked up pending sent handle told owed =
+    (link : ℕ) (e : Exchange) → contains link links ≡ true → exchange link ≡ Some e → WaitsOn link e (asked link) (up link) pending sent handle told owed
+
+-- the handle by which the client is to know the statement that is prepared next
+abbrev pub handle : Config → List Item → ℕ
+handle config past = next_handle (statements config past)
 
 abbrev pub Waits : Config → List Item → Type 0
 Waits config past =
-    WaitsBy (links past) (λ link. exchange link past) (λ link. asked_on link past) (λ link. is_up link past) (pending past) (sent_on past) (told past)
-    (owed config past)
+    WaitsBy (links past) (λ link. exchange link past) (λ link. asked_on link past) (λ link. is_up link past) (pending past) (sent_on past)
+    (handle config past) (told past) (owed config past)
 
 pub record Sound (config : Config) (past : List Item) : Type 0 where
   pub sent : Sent config past

@@ -26,13 +26,18 @@ use Rattle.rws_link.specs.Stepping.{LinkState, LogsIn, Rests, Awaits, IsLost, Ex
 use Rattle.rws_link.specs.declared.handshake.Handshake.{Handshake}
 use Rattle.rws_config.specs.declared.config.Config.{Config}
 use Rattle.rws_config.specs.declared.limits.TheConstants.{SERVER_PAYLOAD}
-use Rattle.rws_record.specs.declared.command.Command.{Command}
+use Rattle.rws_msgs.specs.declared.prepare_ok.PrepareOk.{PrepareOk}
+use Rattle.rws_reply.specs.declared.kind.Outcome.{Outcome}
+use Rattle.rws_commands.specs.declared.command.Command.{Command}
+use Rattle.rws_commands.specs.declared.history.HistoryEntry.{HistoryEntry}
+use Rattle.rws_commands.specs.declared.history.PreparedAs.{PreparedAs}
+use Rattle.rws_commands.specs.Statements.{Statements, is_otherwise, next_handle, played}
 use Rattle.rws_record.specs.Item.{Item, Purpose, Put}
 use Rattle.rws_record.specs.Item.Item.{Accepted, TurnsAway, Began, ClientBytes, LinkReady, LinkBytes, ClientGone, LinkLost, Ticks, Routed, Comes, Connects, Floods, Puts}
-use Rattle.rws_record.specs.Item.Purpose.{Prepares, Plays}
+use Rattle.rws_record.specs.Item.Purpose.{Prepares, Asks, Plays}
 use Rattle.rws_record.specs.Item.Put.{Routes, Drops}
-use Rattle.rws_record.specs.Values.{fronted, goes_on, held, login_of, link_to, links, contains, now, reply_number, routing, asked_on, awaited, exchange, is_up, kind_of, linked, link_held, unread, pending, sent_on, told, is_over, is_starved, pinned}
-use Rattle.rws_record.specs.Rules.{after_loss, after_connecting, after_flood, after_played, after_preparing, flood_limit, found_in, drop_cause, farewells, is_free, is_ready, is_same, owed, unasked}
+use Rattle.rws_record.specs.Values.{ends_transaction, heard_on, named_in, named_on, statements, fronted, goes_on, held, login_of, link_to, links, contains, now, reply_number, routing, asked_on, awaited, exchange, is_up, kind_of, linked, link_held, unread, pending, sent_on, told, is_over, is_starved, pinned}
+use Rattle.rws_record.specs.Rules.{after_loss, after_connecting, after_flood, after_played, after_preparing, differing, flood_limit, found_in, drop_cause, farewells, is_free, is_ready, is_same, owed, unasked}
 use Rattle.rws_record.specs.Record.{IsBeginning, IsRecord, IsInput}
 use Rattle.rws_record.specs.Record.IsRecord.{begins, steps, answers as answered, hears, starves}
 use Rattle.rws_record.proofs.LinkedLemmas.{Says, awaits_asked}
@@ -40,7 +45,7 @@ use Rattle.rws_record.proofs.LinkedLemmas.Says.{answers, enters, hurries, fails,
 use Rattle.rws_record.proofs.StepLemmas.{Due, Step, of_next, rests_owing_nothing}
 use Rattle.rws_record.proofs.WantLemmas.{input_starved, step_starved}
 use Rattle.rws_record.proofs.StepLemmas.Due.{comes, connects, takes}
-use Rattle.rws_record.proofs.StepLemmas.Step.{pays, asks, prepares as prepares_it, plays, sends, floods, reads}
+use Rattle.rws_record.proofs.StepLemmas.Step.{pays, asks, prepares as prepares_it, forgets, plays, sends, floods, reads}
 use Rattle.rws_record.proofs.OpeningLemmas.{asks_owing_nothing}
 use Rattle.rws_laws.specs.Client.{Flooded, IsSaid}
 use Rattle.rws_laws.specs.Client.Flooded.{flooded}
@@ -59,7 +64,7 @@ use Rattle.rws_laws.proofs.FrontLemmas.{front_says, said_so, steady, taken_so}
 use Rattle.rws_laws.proofs.HandshakeLemmas.{answers_so, fails_so, takes_so}
 use Rattle.rws_laws.proofs.CameLemmas.{Came, after_answer_is, after_entering_is, bytes_keep, legal_came, loss_leaves, ready_keeps}
 use Rattle.rws_laws.proofs.LostLemmas.{AreUnasked, its_login, legal_unasked, was_unasked}
-use Rattle.rws_laws.proofs.Sound.{Caused, passed, AwaitedBy, WaitsOn, Sound, not_soon, same_some}
+use Rattle.rws_laws.proofs.Sound.{Caused, handle, passed, AwaitedBy, WaitsOn, Sound, not_soon, same_some}
 use Rattle.rws_laws.proofs.Sound.WaitsOn.{prepares, repeats, replies}
 use Rattle.rws_laws.proofs.Sound.Caused.{nothing, drops, logs_on}
 use Rattle.rws_laws.proofs.Sound.ToldBy.{none_told}
@@ -68,7 +73,7 @@ use Rattle.rws_laws.proofs.ListLemmas.{has_it}
 use Rattle.rws_laws.proofs.RoutedLemmas.{route_caused}
 use Rattle.rws_laws.proofs.ReplyLemmas.{passes_same, route_passes, still_asked, owes_same, lost_passes, farewells_pass, told_without, without_sent, without_waits}
 use Rattle.rws_laws.proofs.OwedLemmas.{Arrived, leaves, loss_caused, flood_caused, misprepared_caused, preparing_caused, misplayed_caused, playing_caused, said_caused, turning_caused, CameNext, said, wrong_caused}
-use Rattle.rws_laws.proofs.GivenLemmas.{clean, coming_sent, prepares_sound, plays_sound, put_sound, ready_sent, reply_sound, routes_sound, send_sound, take_sound}
+use Rattle.rws_laws.proofs.GivenLemmas.{clean, coming_sent, forgets_sound, prepares_sound, plays_sound, put_sound, ready_sent, reply_sound, routes_sound, send_sound, take_sound}
 
 -- where a link is free
 both_hold : (a b : Bool) → (a && b) ≡ true → (a ≡ true) × (b ≡ true)
@@ -94,6 +99,12 @@ not_up false e = refl
 
 -- Each step
 
+-- the session sent it by itself
+abbrev is_own : Purpose → Bool
+is_own Prepares = true
+is_own (Plays entry) = true
+is_own (Asks command id) = false
+
 -- the preamble's reply passes nothing
 unasked_passes : (link : ℕ) (behind : Bool) → passed (unasked link behind) ≡ []
 unasked_passes link true = refl
@@ -104,10 +115,36 @@ preparing_passes link More behind = refl
 preparing_passes link (Ends (Done status)) behind = unasked_passes link behind
 preparing_passes link (Ends (Failed code)) behind = refl
 
-played_passes : (link : ℕ) (far : Progress) (behind : Bool) → passed (after_played link far behind) ≡ []
-played_passes link More behind = refl
-played_passes link (Ends (Done status)) behind = unasked_passes link behind
-played_passes link (Ends (Failed code)) behind = refl
+differing_passes : (link : ℕ) (otherwise behind : Bool) → passed (differing link otherwise behind) ≡ []
+differing_passes link true behind = refl
+differing_passes link false behind = unasked_passes link behind
+
+played_passes : (link : ℕ) (entry : HistoryEntry) (named : Option PrepareOk) (far : Progress) (behind : Bool)
+    → passed (after_played link entry named far behind) ≡ []
+played_passes link entry named More behind = refl
+played_passes link entry named (Ends (Done status)) behind = differing_passes link (is_otherwise entry.statement named) behind
+played_passes link entry named (Ends (Failed code)) behind = refl
+
+-- an entry that is played prepares a statement that the client knows already
+played_names : (link serial : ℕ) (how : Option PreparedAs) (named : Option PrepareOk) (s : Statements)
+    → next_handle (played link serial how named s) ≡ next_handle s
+played_names link serial (Some how) (Some ok) s = refl
+played_names link serial (Some how) None s = refl
+played_names link serial None named s = refl
+
+-- the session hears of a link that which it sent by itself: the client's statements stay
+own_names : (link : ℕ) (said : LinkStep) (purpose : Purpose) (ends : Outcome → Bool) (named : Option PrepareOk) (s : Statements) → is_own purpose ≡ true
+    → next_handle (heard_on link said (Some purpose) ends named s) ≡ next_handle s
+own_names link (steps.Part payload its (Ends (Done status)) number behind) (Plays entry) ends named s own =
+    played_names link entry.serial entry.statement (named_in its payload named) s
+own_names link (steps.Part payload its (Ends (Failed code)) number behind) (Plays entry) ends named s own = refl
+own_names link (steps.Part payload its (Ends outcome) number behind) Prepares ends named s own = refl
+own_names link (steps.Part payload its (Ends outcome) number behind) (Asks command id) ends named s own = absurd cc
+own_names link (steps.Part payload its More number behind) purpose ends named s own = refl
+own_names link (steps.Lost cause) purpose ends named s own = refl
+own_names link (steps.Send packets) purpose ends named s own = refl
+own_names link steps.LoggedIn purpose ends named s own = refl
+own_names link steps.Idle purpose ends named s own = refl
 
 connecting_passes : (said : FrontStep) → passed (after_connecting said) ≡ []
 connecting_passes (fronts.Send packets) = refl
@@ -120,16 +157,17 @@ module _ (config : Config) (past : List Item) (sound : Sound config past) (came 
     (o : owed config past ≡ []) (n : is_over past ≡ false) where
   -- What a link says
 
-  still_waits : (link : ℕ) (said : LinkStep) (owes : List Put) → passed owes ≡ [] → (other : ℕ) (x : Exchange)
+  still_waits : (link : ℕ) (said : LinkStep) (owes : List Put) → passed owes ≡ [] → handle config (Comes link said ∷ past) ≡ handle config past
+      → (other : ℕ) (x : Exchange)
       → (link == other) ≡ false → contains other (links past) ≡ true → exchange other past ≡ Some x
-      → WaitsOn other x (asked_on other past) (is_up other (Comes link said ∷ past)) (pending past) (sent_on past) (told past) owes
-  still_waits link said owes passes other x t has a =
-      rw t (passes_same (owed config past) owes (ap passed o ∙ sym passes) (sound.waits other x has a))
+      → WaitsOn other x (asked_on other past) (is_up other (Comes link said ∷ past)) (pending past) (sent_on past) (handle config (Comes link said ∷ past)) (told past) owes
+  still_waits link said owes passes names other x t has a =
+      rw (t, names) (passes_same (owed config past) owes (ap passed o ∙ sym passes) (sound.waits other x has a))
 
   -- one that owes no reply then, and for which nothing is passed on
   silent_sound : (link : ℕ) (said : LinkStep) → awaited (step (linked link past)).after ≡ None → passed (owed config (Comes link said ∷ past)) ≡ []
-      → Caused config (owed config (Comes link said ∷ past)) (Comes link said ∷ past) → Sound config (Comes link said ∷ past)
-  silent_sound link said none passes owes = record {
+      → handle config (Comes link said ∷ past) ≡ handle config past → Caused config (owed config (Comes link said ∷ past)) (Comes link said ∷ past) → Sound config (Comes link said ∷ past)
+  silent_sound link said none passes names owes = record {
     sent = coming_sent config past link said sound.sent;
     telling = λ n soon. sound.telling n (not_soon o);
     asks = still_asked refl refl refl sound.asks;
@@ -139,18 +177,18 @@ module _ (config : Config) (past : List Item) (sound : Sound config past) (came 
     where
       by_link : (other : ℕ) (x : Exchange) (same : Bool) → (link == other) ≡ same → contains other (links past) ≡ true
           → awaited (if same then (step (linked other past)).after else linked other past) ≡ Some x
-          → WaitsOn other x (asked_on other past) (is_up other (Comes link said ∷ past)) (pending past) (sent_on past) (told past) (owed config (Comes link said ∷ past))
+          → WaitsOn other x (asked_on other past) (is_up other (Comes link said ∷ past)) (pending past) (sent_on past) (handle config (Comes link said ∷ past)) (told past) (owed config (Comes link said ∷ past))
       by_link other x true t has a =
           let same : link ≡ other = eqb-true link other t in
           let none : awaited (step (linked other past)).after ≡ None = subst (λ (l : ℕ). awaited (step (linked l past)).after ≡ None) same none in
           let clash : None ≡ Some x = sym none ∙ a in absurd cc
-      by_link other x false t has a = still_waits link said (owed config (Comes link said ∷ past)) passes other x t has a
+      by_link other x false t has a = still_waits link said (owed config (Comes link said ∷ past)) passes names other x t has a
 
   -- the link that the session has says that it is lost, for a reason that is known
   loses_it : (link : ℕ) (cause : LinkCause) → Says (linked link past) (steps.Lost cause)
       → Caused config (Drops link (drop_cause cause) ∷ []) (Comes link (steps.Lost cause) ∷ past) → Sound config (Comes link (steps.Lost cause) ∷ past)
   loses_it link cause it owes =
-      silent_sound link (steps.Lost cause) (loss_leaves (linked link past) (steps.Lost cause) cause it refl) refl owes
+      silent_sound link (steps.Lost cause) (loss_leaves (linked link past) (steps.Lost cause) cause it refl) refl refl owes
 
   -- it then owes no reply
   lost_owes : (link : ℕ) (cause : LinkCause) → Says (linked link past) (steps.Lost cause) → exchange link (Comes link (steps.Lost cause) ∷ past) ≡ None
@@ -176,11 +214,12 @@ module _ (config : Config) (past : List Item) (sound : Sound config past) (came 
       record { has = has; owes = ap awaited is; state = is; begins = f; came = came link e (ap awaited is); goes = n }
 
   came_next : (link : ℕ) (e : Exchange) (payload rest : Payload) (number : ℕ) → Arrived past link e payload rest number
-      → (awaits : AwaitedBy link e (asked_on link past) (pending past) (sent_on past) (told past) (owed config past))
+      → (awaits : AwaitedBy link e (asked_on link past) (pending past) (sent_on past) (handle config past) (told past) (owed config past))
       → CameNext config past link e awaits.command payload rest number
   came_next link e payload rest number arrived awaits = record {
     arrived = arrived;
     kind = awaits.kind;
+    id = awaits.id;
     asked_it = awaits.asked_it;
     pending = awaits.waits;
     sent = awaits.sent_there;
@@ -202,16 +241,22 @@ module _ (config : Config) (past : List Item) (sound : Sound config past) (came 
 
     abbrev WaitsThen : (its : Role) (other : ℕ) → Exchange → List Put → Type 0
     WaitsThen its other x owes =
-        WaitsOn other x (asked_on other past) (is_up other (Comes link (the_said its More) ∷ past)) (pending past) (sent_on past) (told past) owes
+        WaitsOn other x (asked_on other past) (is_up other (Comes link (the_said its More) ∷ past)) (pending past) (sent_on past)
+        (handle config (Comes link (the_said its More) ∷ past)) (told past) owes
 
     -- of which nothing is passed on
-    module _ (answer : Progress → List Put) (owed_then : (its : Role) (far : Progress) → owed config (Comes link (the_said its far) ∷ past) ≡ answer far)
-        (passes : (far : Progress) → passed (answer far) ≡ [])
+    module _ (purpose : Purpose) (asked : asked_on link past ≡ Some purpose) (own : is_own purpose ≡ true) (answer : Role → Progress → List Put)
+        (owed_then : (its : Role) (far : Progress) → owed config (Comes link (the_said its far) ∷ past) ≡ answer its far)
+        (passes : (its : Role) (far : Progress) → passed (answer its far) ≡ [])
         (caused : (its : Role) (far : Progress) → role e.kind e.sofar payload ≡ Some its → progress e.kind e.sofar payload ≡ Some far
-        → Caused config (answer far) (Comes link (the_said its far) ∷ past))
+        → Caused config (answer its far) (Comes link (the_said its far) ∷ past))
         (goes_on_waiting : (its : Role) (other : ℕ) (x : Exchange) (owes : List Put) → link ≡ other → WaitsThen its other x owes) where
       on_passes : (its : Role) (far : Progress) → passed (owed config (Comes link (the_said its far) ∷ past)) ≡ []
-      on_passes its far = ap passed (owed_then its far) ∙ passes far
+      on_passes its far = ap passed (owed_then its far) ∙ passes its far
+
+      on_names : (its : Role) (far : Progress) → handle config (Comes link (the_said its far) ∷ past) ≡ handle config past
+      on_names its far =
+          rw asked (own_names link (the_said its far) purpose (λ outcome. ends_transaction config link outcome past) (named_on link past) (statements config past) own)
 
       on_owes : (its : Role) (far : Progress) → role e.kind e.sofar payload ≡ Some its → progress e.kind e.sofar payload ≡ Some far
           → Caused config (owed config (Comes link (the_said its far) ∷ past)) (Comes link (the_said its far) ∷ past)
@@ -224,7 +269,7 @@ module _ (config : Config) (past : List Item) (sound : Sound config past) (came 
       more_waits its other x true t has a =
           goes_on_waiting its other x (owed config (Comes link (the_said its More) ∷ past)) (eqb-true link other t)
       more_waits its other x false t has a =
-          still_waits link (the_said its More) (owed config (Comes link (the_said its More) ∷ past)) (on_passes its More) other x t has a
+          still_waits link (the_said its More) (owed config (Comes link (the_said its More) ∷ past)) (on_passes its More) (on_names its More) other x t has a
 
       own_sound : (its : Role) (far : Progress) → role e.kind e.sofar payload ≡ Some its → progress e.kind e.sofar payload ≡ Some far
           → Sound config (Comes link (the_said its far) ∷ past)
@@ -232,7 +277,7 @@ module _ (config : Config) (past : List Item) (sound : Sound config past) (came 
           let itself : (link == link) ≡ true = eq-eqb link link refl in
           let none : awaited (step (linked link past)).after ≡ None =
           rw itself at (leaves past link e payload rest number arrived its (Ends outcome) r p) in
-          silent_sound link (the_said its (Ends outcome)) none (on_passes its (Ends outcome)) (on_owes its (Ends outcome) r p)
+          silent_sound link (the_said its (Ends outcome)) none (on_passes its (Ends outcome)) (on_names its (Ends outcome)) (on_owes its (Ends outcome) r p)
       own_sound its More r p = record {
         sent = coming_sent config past link (the_said its More) sound.sent;
         telling = λ n soon. sound.telling n (not_soon o);
@@ -244,20 +289,20 @@ module _ (config : Config) (past : List Item) (sound : Sound config past) (came 
     prepared_sound : asked_on link past ≡ Some Prepares → is_up link past ≡ false → (its : Role) (far : Progress)
         → role e.kind e.sofar payload ≡ Some its → progress e.kind e.sofar payload ≡ Some far → Sound config (Comes link (the_said its far) ∷ past)
     prepared_sound asked up =
-        own_sound (λ far. after_preparing link far (is_some_byte rest)) (λ its far. rw asked refl)
-        (λ far. preparing_passes link far (is_some_byte rest))
+        own_sound Prepares asked refl (λ its far. after_preparing link far (is_some_byte rest)) (λ its far. rw asked refl)
+        (λ its far. preparing_passes link far (is_some_byte rest))
         (preparing_caused config past link e payload rest number arrived (its_kind Prepares asked) asked)
         (λ its other x owes same.
         let t : (link == other) ≡ true = eq-eqb link other same in
         prepares (subst (λ (l : ℕ). asked_on l past ≡ Some Prepares) same asked) (rw t (subst (λ (l : ℕ). is_up l past ≡ false) same up)))
 
-    played_sound : (command : Command) → asked_on link past ≡ Some (Plays command) → (its : Role) (far : Progress)
+    played_sound : (entry : HistoryEntry) → asked_on link past ≡ Some (Plays entry) → (its : Role) (far : Progress)
         → role e.kind e.sofar payload ≡ Some its → progress e.kind e.sofar payload ≡ Some far → Sound config (Comes link (the_said its far) ∷ past)
-    played_sound command asked =
-        own_sound (λ far. after_played link far (is_some_byte rest)) (λ its far. rw asked refl)
-        (λ far. played_passes link far (is_some_byte rest))
-        (playing_caused config past link e payload rest number arrived command (its_kind (Plays command) asked) asked)
-        (λ its other x owes same. repeats {command = command} (subst (λ (l : ℕ). asked_on l past ≡ Some (Plays command)) same asked))
+    played_sound entry asked =
+        own_sound (Plays entry) asked refl (λ its far. after_played link entry (named_in its payload (named_on link past)) far (is_some_byte rest)) (λ its far. rw asked refl)
+        (λ its far. played_passes link entry (named_in its payload (named_on link past)) far (is_some_byte rest))
+        (playing_caused config past link e payload rest number arrived entry (its_kind (Plays entry) asked) asked)
+        (λ its other x owes same. repeats {entry = entry} (subst (λ (l : ℕ). asked_on l past ≡ Some (Plays entry)) same asked))
 
   -- its login failed
   failed_sound : (link : ℕ) (handshake : Handshake) (payload rest : Payload) (number : ℕ) (cause : LinkCause)
@@ -279,23 +324,23 @@ module _ (config : Config) (past : List Item) (sound : Sound config past) (came 
   -- a payload of a reply
   part_sound : (link : ℕ) (e : Exchange) (payload rest : Payload) (number : ℕ) (its : Role) (far : Progress)
       → Arrived past link e payload rest number → role e.kind e.sofar payload ≡ Some its → progress e.kind e.sofar payload ≡ Some far
-      → WaitsOn link e (asked_on link past) (is_up link past) (pending past) (sent_on past) (told past) (owed config past)
+      → WaitsOn link e (asked_on link past) (is_up link past) (pending past) (sent_on past) (handle config past) (told past) (owed config past)
       → Sound config (Comes link (steps.Part payload its far number (is_some_byte rest)) ∷ past)
   part_sound link e payload rest number its far arrived r p (prepares asked up) =
       prepared_sound link e payload rest number arrived asked up its far r p
-  part_sound link e payload rest number its far arrived r p (repeats {command = command} asked) =
-      played_sound link e payload rest number arrived command asked its far r p
+  part_sound link e payload rest number its far arrived r p (repeats {entry = entry} asked) =
+      played_sound link e payload rest number arrived entry asked its far r p
   part_sound link e payload rest number its far arrived r p (replies awaits) =
       reply_sound config past sound link e awaits.command payload rest number o (came_next link e payload rest number arrived awaits) its far r p
 
   wrong_owes : (link : ℕ) (e : Exchange) (payload rest : Payload) (number : ℕ) → Arrived past link e payload rest number
       → progress e.kind e.sofar payload ≡ None
-      → WaitsOn link e (asked_on link past) (is_up link past) (pending past) (sent_on past) (told past) (owed config past)
+      → WaitsOn link e (asked_on link past) (is_up link past) (pending past) (sent_on past) (handle config past) (told past) (owed config past)
       → Caused config (Drops link BadReply ∷ []) (Comes link (steps.Lost losses.BadReply) ∷ past)
   wrong_owes link e payload rest number arrived p (prepares asked up) =
       misprepared_caused config past link e payload rest number arrived (its_kind link e payload rest number arrived Prepares asked) asked p
-  wrong_owes link e payload rest number arrived p (repeats {command = command} asked) =
-      misplayed_caused config past link e payload rest number arrived command (its_kind link e payload rest number arrived (Plays command) asked) asked p
+  wrong_owes link e payload rest number arrived p (repeats {entry = entry} asked) =
+      misplayed_caused config past link e payload rest number arrived entry (its_kind link e payload rest number arrived (Plays entry) asked) asked p
   wrong_owes link e payload rest number arrived p (replies awaits) =
       wrong_caused config past link e awaits.command payload rest number (came_next link e payload rest number arrived awaits) p
 
@@ -303,10 +348,10 @@ module _ (config : Config) (past : List Item) (sound : Sound config past) (came 
       → Sound config (Comes link said ∷ past)
   coming_sound link state said is has (answers {handshake = handshake} {unread = bytes} {payload = payload} {rest = rest} {bytes = packets} {number = number} {next = next} {stage1 = stage1} f r) =
       let login = its_login past link said handshake bytes is f in
-      silent_sound link (steps.Send packets) (rw is (ap awaited (after_answer_is handshake bytes f r))) refl
+      silent_sound link (steps.Send packets) (rw is (ap awaited (after_answer_is handshake bytes f r))) refl refl
       (logs_on (logs_so login (answers_so handshake payload packets number next stage1 r), has))
   coming_sound link state said is has (enters {handshake = handshake} {unread = bytes} f r) =
-      silent_sound link steps.LoggedIn (rw is (ap awaited (after_entering_is handshake bytes f r))) refl nothing
+      silent_sound link steps.LoggedIn (rw is (ap awaited (after_entering_is handshake bytes f r))) refl refl nothing
   coming_sound link state said is has (hurries {handshake = handshake} {unread = bytes} {payload = payload} {number = number} f r) =
       let it : Says (linked link past) (steps.Lost losses.Unasked) = rw is (hurries f r) in
       loses_it link losses.Unasked it
@@ -367,7 +412,7 @@ new_awaits (IsLost cause) is = refl
 module _ (config : Config) (past : List Item) (sound : Sound config past) (o : owed config past ≡ []) (n : is_over past ≡ false) where
   ready_waits : (ready : ℕ) → is_new (linked ready past) ≡ true → (other : ℕ) (e : Exchange) (same : Bool) → (ready == other) ≡ same
       → contains other (links past) ≡ true → exchange other past ≡ Some e
-      → WaitsOn other e (asked_on other past) (if same then true else is_up other past) (pending past) (sent_on past) (told past) []
+      → WaitsOn other e (asked_on other past) (if same then true else is_up other past) (pending past) (sent_on past) (handle config past) (told past) []
   ready_waits ready new other e true t has a =
       let same : ready ≡ other = eqb-true ready other t in
       let none = new_awaits (linked other past) (subst (λ (l : ℕ). is_new (linked l past) ≡ true) same new) in
@@ -474,10 +519,11 @@ step_sound {config} {past} (pays {put = put} {others = others} o) came unasked e
 step_sound {config} {past} (asks o n p g w) came unasked entering sound = routes_sound config past sound o
 step_sound {config} {past} (prepares_it {link = link} o n has c) came unasked entering sound =
     prepares_sound config past sound link o (not_up (is_up link past) (freed false link past c).1)
-step_sound {config} {past} (plays {link = link} {command = command} o n has f s) came unasked entering sound =
-    plays_sound config past sound link command o
-step_sound {config} {past} (sends {link = link} {command = command} o n p s g f d) came unasked entering sound =
-    let free = freed true link past f in send_sound config past sound link command o n p s g free.1 free.0
+step_sound {config} {past} (plays {link = link} {entry = entry} o n has f t s) came unasked entering sound =
+    plays_sound config past sound link entry o
+step_sound {config} {past} (sends {link = link} {command = command} {id = id} o n p s g f t d i) came unasked entering sound =
+    let free = freed true link past f in send_sound config past sound link command id o n p s g free.1 free.0
+step_sound {config} {past} (forgets {link = link} {id = id} o n has f t) came unasked entering sound = forgets_sound config past sound link id o
 step_sound (floods o n p above) came unasked entering sound = flood_sound o p above sound
 step_sound {config} {past} (reads o n due) came unasked entering sound =
     due_sound config past sound came (unasked o) (is_entering o n entering) o n due

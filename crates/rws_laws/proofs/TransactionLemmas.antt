@@ -15,9 +15,10 @@ use Rattle.rws_trx.specs.Transactions.{ends_transactions, is_ddl, is_open, is_ot
 use Rattle.rws_trx.specs.OnLinks.{by_course, course_of}
 use Rattle.rws_config.specs.declared.config.Config.{Config}
 use Rattle.rws_record.specs.Item.{Item}
-use Rattle.rws_record.specs.Judging.{changes, is_forbidden}
-use Rattle.rws_record.specs.Values.{accepted, answered_if}
-use Rattle.rws_record.specs.Rules.{is_full, is_read_only}
+use Rattle.rws_commands.specs.Judging.{changes, is_forbidden}
+use Rattle.rws_commands.specs.Statements.{is_full}
+use Rattle.rws_record.specs.Values.{answered_if, statements}
+use Rattle.rws_record.specs.Rules.{is_read_only}
 use Rattle.rws_laws.specs.Causes.{IsBarred, MayLast}
 use Rattle.rws_laws.specs.Causes.IsBarred.{writes, begins as begins_anew, begins_read_only as begins_reading, autocommits as autocommits_in, collects, saves, defines, does_anything, has_no_room}
 use Rattle.rws_laws.specs.Causes.MayLast.{anything, definitions, rows, begins, begins_read_only, commits, rolls_back, autocommits}
@@ -95,16 +96,17 @@ both true true e = (refl, refl)
 both true false e = absurd cc
 both false other e = absurd cc
 
-full_is : (config : Config) (past : List Item) → is_full config past ≡ true → config.history_limit ≤ length (accepted past)
+full_is : (config : Config) (past : List Item) → is_full config.history_limit (statements config past) ≡ true
+    → config.history_limit ≤ length (statements config past).history
 full_is config past f =
-    elim (cases_lt (length (accepted past)) config.history_limit) [
+    elim (cases_lt (length (statements config past).history) config.history_limit) [
       | inl below ↦
-          let clash : false ≡ true = sym (ap not (lt-ltb (length (accepted past)) config.history_limit below)) ∙ f in absurd cc
+          let clash : false ≡ true = sym (ap not (lt-ltb (length (statements config past).history) config.history_limit below)) ∙ f in absurd cc
       | inr full ↦ full
     ]
 
 pub barred_class : (config : Config) (past : List Item) (class : Class) → is_forbidden class ≡ false
-    → changes (is_full config past) class ≡ true → IsBarred config past class
+    → changes (is_full config.history_limit (statements config past)) class ≡ true → IsBarred config past class
 barred_class config past Read f c = absurd cc
 barred_class config past PrimaryRead f c = absurd cc
 barred_class config past Commit f c = absurd cc

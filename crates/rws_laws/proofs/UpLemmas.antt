@@ -1,23 +1,24 @@
 -- A link that is prepared doesn't log in.
-use Rattle.std.proofs.Common.{◌≡◌, ℕ, Bool, true, false, List, [], ◌∷◌, refl, ap, subst, ◌∙◌, eqb-true, Option, Some}
+use Rattle.std.proofs.Common.{◌≡◌, ℕ, Bool, true, false, List, [], ◌∷◌, refl, ap, subst, ◌∙◌, eqb-true, Option}
 use Rattle.std.specs.Prelude.{◌==◌, if◌then◌else◌}
 use Rattle.rws_config.specs.declared.config.Config.{Config}
 use Rattle.rws_reply.specs.declared.kind.Progress.{Progress}
 use Rattle.rws_reply.specs.declared.kind.Progress.TheVariants.{More, Whole as Ends}
 use Rattle.rws_link.specs.declared.step.LinkStep.{LinkStep}
-use Rattle.rws_link.specs.Stepping.{LinkState, LogsIn, Rests, Awaits, IsLost, Exchange, behind_part, fed, is_new, opened as opening, readied, sent, settled, step, with_part}
+use Rattle.rws_link.specs.Stepping.{LinkState, LogsIn, Rests, Awaits, IsLost, Exchange, behind_part, fed, is_new, opened as opening, readied, settled, step, with_part}
 use Rattle.rws_record.specs.Item.{Item, Purpose, Put}
 use Rattle.rws_record.specs.Item.Item.{Accepted, TurnsAway, Began, ClientBytes, LinkReady, LinkBytes, ClientGone, LinkLost, Ticks, Comes, Puts}
-use Rattle.rws_record.specs.Item.Put.{Hands, Tells, Routes, Opens, LogsInto, Sends, Drops, Closes}
+use Rattle.rws_record.specs.Item.Put.{Hands, Tells, Routes, Opens, LogsInto, Sends, Forgets, Drops, Closes}
 use Rattle.rws_record.specs.Item.Purpose.{Prepares, Asks, Plays}
-use Rattle.rws_record.specs.Values.{asked_on, is_up, kind_of, linked, prepared_by, sent_for}
+use Rattle.rws_record.specs.Values.{asked_on, is_up, kind_of, linked, prepared_by, sent_all, sent_for}
 use Rattle.rws_record.specs.Record.{IsBeginning, IsInput, IsRecord}
 use Rattle.rws_record.specs.Record.IsRecord.{begins, steps as goes, answers as answered, hears, starves}
 use Rattle.rws_record.proofs.LinkedLemmas.{Says, after_loss_is, after_part_is}
 use Rattle.rws_record.proofs.LinkedLemmas.Says.{answers, enters, hurries, fails, breaks, part, garbled, wrong, again}
 use Rattle.rws_record.proofs.StepLemmas.{Due, Step, of_next}
 use Rattle.rws_record.proofs.StepLemmas.Due.{comes, connects, takes}
-use Rattle.rws_record.proofs.StepLemmas.Step.{pays, asks, prepares, plays, sends, floods, reads}
+use Rattle.rws_record.proofs.StepLemmas.Step.{pays, asks, prepares, forgets, plays, sends, floods, reads}
+use Rattle.rws_laws.proofs.CameLemmas.{by_sent}
 
 abbrev pub logs_in : LinkState → Bool
 logs_in (LogsIn handshake bytes) = true
@@ -77,8 +78,8 @@ sending_up : (past : List Item) (to : ℕ) (purpose : Purpose) → Up past → U
 sending_up past to purpose up = λ link u. by_test link (to == link) u
   where
     by_test : (link : ℕ) (test : Bool) → is_up link past ≡ true
-        → logs_in (if test then sent (sent_for purpose) (Some (kind_of purpose)) else linked link past) ≡ false
-    by_test link true u = refl
+        → logs_in (if test then sent_all (sent_for purpose) (kind_of purpose) else linked link past) ≡ false
+    by_test link true u = by_sent (λ (state : LinkState). logs_in state ≡ false) refl (λ e. refl) (sent_for purpose) (kind_of purpose)
     by_test link false u = up link u
 
 put_up : (past : List Item) (put : Put) → Up past → Up (Puts put ∷ past)
@@ -92,6 +93,7 @@ put_up past (Opens opened server login) up = λ link u. by_test link (opened == 
 put_up past (Hands packets) up = up
 put_up past (Tells number tell) up = up
 put_up past Routes up = up
+put_up past (Forgets to id) up = up
 put_up past (LogsInto to packets) up = up
 put_up past (Drops link cause) up = up
 put_up past (Closes reason) up = up
@@ -105,8 +107,9 @@ step_up : {config : Config} {past : List Item} {item : Item} → Step config pas
 step_up {past = past} (pays {put = put} o) up = put_up past put up
 step_up (asks o n p k l) up = up
 step_up {past = past} (prepares {link = to} o n k c) up = sending_up past to Prepares up
-step_up {past = past} (plays {link = to} {command = command} o n k c s) up = sending_up past to (Plays command) up
-step_up {past = past} (sends {link = to} {command = command} o n p s k c d) up = sending_up past to (Asks command) up
+step_up {past = past} (plays {link = to} {entry = entry} o n k c t s) up = sending_up past to (Plays entry) up
+step_up {past = past} (sends {link = to} {command = command} {id = id} o n p s k c t d i) up = sending_up past to (Asks command id) up
+step_up (forgets o n has f t) up = up
 step_up (floods o n p above) up = up
 step_up (reads o n due) up = due_up due up
 

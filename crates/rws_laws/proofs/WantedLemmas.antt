@@ -3,7 +3,7 @@ use Rattle.std.proofs.Common.{◌≡◌, ℕ, Bool, true, false, List, [], ◌�
 use Rattle.rws_wire.specs.declared.close_reason.CloseReason.TheVariants.{Memory}
 use Rattle.rws_wire.specs.declared.drop_cause.DropCause.TheVariants.{End}
 use Rattle.rws_config.specs.declared.config.Config.{Config}
-use Rattle.rws_record.specs.declared.proxy_error.ProxyError.TheVariants.{OutOfMemory}
+use Rattle.rws_commands.specs.declared.proxy_error.ProxyError.TheVariants.{OutOfMemory}
 use Rattle.rws_record.specs.Item.{Item, Put}
 use Rattle.rws_record.specs.Item.Item.{Accepted, TurnsAway, Began, Puts, Starves}
 use Rattle.rws_record.specs.Item.Put.{Tells, Routes, Drops, Closes}
@@ -13,7 +13,7 @@ use Rattle.rws_record.specs.Rules.{farewells, owed}
 use Rattle.rws_record.specs.Record.{IsBeginning, IsRecord, want_number}
 use Rattle.rws_record.specs.Record.IsRecord.{begins, steps, answers, hears, starves}
 use Rattle.rws_record.proofs.StepLemmas.{Step, of_next, rests_owing_nothing}
-use Rattle.rws_record.proofs.StepLemmas.Step.{pays, asks, prepares, plays, sends, floods, reads}
+use Rattle.rws_record.proofs.StepLemmas.Step.{pays, asks, prepares, forgets, plays, sends, floods, reads}
 use Rattle.rws_record.proofs.WantLemmas.{input_starved, step_starved}
 use Rattle.rws_laws.specs.Causes.{IsCaused, IsStarvedAndTold, AreCaused}
 use Rattle.rws_laws.proofs.AskedLemmas.{AskedNow, legal_asked}
@@ -56,8 +56,9 @@ step_ends : {config : Config} {past : List Item} {item : Item} → Step config p
 step_ends {config} {past = past} (pays {put = put} {others = others} o) ends = pays_end config past put others o ends
 step_ends (asks o n p k l) ends = no_end o n ends
 step_ends (prepares o n k c) ends = no_end o n ends
-step_ends (plays o n k c s) ends = no_end o n ends
-step_ends (sends o n p s k c d) ends = no_end o n ends
+step_ends (plays o n k c t s) ends = no_end o n ends
+step_ends (sends o n p s k c t d i) ends = no_end o n ends
+step_ends (forgets o n has f t) ends = no_end o n ends
 step_ends (floods o n p above) ends = no_end o n ends
 step_ends (reads o n due) ends = no_end o n ends
 
@@ -118,8 +119,9 @@ pub ends_caused : {config : Config} {past : List Item} {item : Item} → Step co
 ends_caused {config} {past} (pays {put = put} {others = others} o) ends below = (end_caused config past put others o ends, below)
 ends_caused (asks o n p k l) ends below = no_end o n ends
 ends_caused (prepares o n k c) ends below = no_end o n ends
-ends_caused (plays o n k c s) ends below = no_end o n ends
-ends_caused (sends o n p s k c d) ends below = no_end o n ends
+ends_caused (plays o n k c t s) ends below = no_end o n ends
+ends_caused (sends o n p s k c t d i) ends below = no_end o n ends
+ends_caused (forgets o n has f t) ends below = no_end o n ends
 ends_caused (floods o n p above) ends below = no_end o n ends
 ends_caused (reads o n due) ends below = no_end o n ends
 

@@ -1,9 +1,8 @@
 -- A transaction that may write is open at the server that the last route gave as primary.
-use Rattle.std.proofs.Common.{◌≡◌, ℕ, Bool, true, false, List, [], ◌∷◌, length, refl, sym, ap, subst, ◌∙◌, Option, Some, None}
+use Rattle.std.proofs.Common.{inl, inr, arith, ◌≡◌, ℕ, Bool, true, false, List, [], ◌∷◌, length, refl, sym, ap, subst, ◌∙◌, Option, Some, None}
 use Rattle.std.specs.Prelude.{◌≢◌, ◌≤◌, not, if◌then◌else◌}
-use Rattle.std.proofs.lemmas.Bool.{le-ltb}
+use Rattle.std.proofs.lemmas.Bool.{cases_lt, le-ltb, lt-ltb}
 use Rattle.rws_class.specs.declared.class.Class.{Class}
-use Rattle.rws_reply.specs.declared.kind.Outcome.{Outcome}
 use Rattle.rws_reply.specs.Replies.{Payload}
 use Rattle.rws_native.specs.declared.login.Login.{Login}
 use Rattle.rws_pool.specs.declared.words.PoolWords.{PoolWords}
@@ -17,24 +16,28 @@ use Rattle.rws_route.specs.Targets.{candidates_of, is_in, may_leave_primary, pri
 use Rattle.rws_routing.specs.declared.routing.Routing.{Routing}
 use Rattle.rws_routing.specs.Routings.{is_at, lost, tried_by}
 use Rattle.rws_config.specs.declared.config.Config.{Config}
-use Rattle.rws_record.specs.declared.command.Command.{Command}
-use Rattle.rws_record.specs.declared.proxy_error.ProxyError.{ProxyError}
-use Rattle.rws_record.specs.declared.proxy_error.ProxyError.TheVariants.{UnknownCommand, NotSupported, UnknownStatement, BadExecute, TooManyStatements, NotInReadOnly, TooManyConnections, CommandTooLarge, NoPrimary, OutOfMemory}
-use Rattle.rws_record.specs.Item.{Item, Judged, Put, Recording}
+use Rattle.rws_commands.specs.declared.command.Command.{Command}
+use Rattle.rws_commands.specs.declared.proxy_error.ProxyError.{ProxyError}
+use Rattle.rws_commands.specs.declared.proxy_error.ProxyError.TheVariants.{UnknownCommand, NotSupported, UnknownStatement, BadExecute, TooManyStatements, NotInReadOnly, TooManyConnections, CommandTooLarge, NoPrimary, OutOfMemory}
+use Rattle.rws_commands.specs.declared.judged.Judged.{Judged}
+use Rattle.rws_record.specs.Item.{Ending, Item, Put, Recording}
 use Rattle.rws_record.specs.Item.Item.{Accepted, TurnsAway, Began, ClientBytes, LinkReady, LinkBytes, ClientGone, LinkLost, Ticks, Routed, Comes, Connects, Takes, Floods, Puts, Starves}
-use Rattle.rws_record.specs.Item.Put.{Hands, Tells, Routes, Opens, LogsInto, Sends, Drops, Closes}
+use Rattle.rws_record.specs.Item.Put.{Hands, Tells, Routes, Opens, LogsInto, Sends, Forgets, Drops, Closes}
 use Rattle.rws_record.specs.Item.Purpose.{Prepares, Asks, Plays}
 use Rattle.rws_record.specs.Item.Recording.{Nothing, Accepts, Keeps}
 use Rattle.rws_record.specs.Item.Tell.{Passes, Owns, Refuses}
-use Rattle.rws_record.specs.Judging.{changes}
-use Rattle.rws_record.specs.Values.{accepted, banned, class_by_pending, class_of_command, goes_on, keeps, kept_by, kept_on, or_link, pending, pinned, routing, sent_on, server_of, speaks, transaction}
-use Rattle.rws_record.specs.Rules.{context, found_in, is_full}
+use Rattle.rws_commands.specs.Judging.{changes}
+use Rattle.rws_commands.specs.Statements.{is_full}
+use Rattle.rws_commands.specs.Commands.{class_of_command, keeps}
+use Rattle.rws_record.specs.Values.{banned, class_by_pending, goes_on, kept_by, kept_on, or_link, pending, pinned, routing, sent_on, server_of, speaks, statements, transaction}
+use Rattle.rws_record.specs.Rules.{found_in, situation}
 use Rattle.rws_record.specs.Record.{IsRecord}
 use Rattle.rws_laws.specs.Client.{Took}
 use Rattle.rws_laws.specs.Causes.{AreCaused, IsAt, IsOpening, found_last}
 use Rattle.rws_laws.specs.Laws.{WritesAtPrimary, found_lately}
 use Rattle.rws_laws.proofs.AimedLemmas.{goes_where_found}
 use Rattle.rws_laws.proofs.CausesLemmas.{causes}
+use Rattle.rws_laws.proofs.HistoryLemmas.{Shrinks, moves, refused_moves, shorter}
 use Rattle.rws_laws.proofs.GivenLemmas.{keeps_is}
 use Rattle.rws_laws.proofs.GoingLemmas.{Aimed}
 use Rattle.rws_laws.proofs.ItemLemmas.{by_items, routed_so, taken_changes_none, took_so}
@@ -43,12 +46,50 @@ use Rattle.rws_laws.proofs.ReplyLemmas.{unless_before}
 use Rattle.rws_laws.proofs.SettledLemmas.{AtPrimary, Settled, Where, answered_placed, filled_at, kept_at, where_it_goes, writes_then}
 use Rattle.rws_laws.proofs.Sound.{same_some}
 use Rattle.rws_laws.proofs.TransactionLemmas.{only_reads}
+use Rattle.rws_class.specs.declared.class.Class.TheVariants.{Read, PrimaryRead, Write, Session, Begin, BeginReadOnly, Commit, Rollback, AutocommitOn, AutocommitOff, TrxLocal, Ddl, Refused as Forbidden, Other}
+
+-- where the history has more room, a command changes no more
+
+abbrev pub IsFull : Config → List Item → Type 0
+IsFull config past = is_full config.history_limit (statements config past) ≡ true
+
+pub changes_less : (full now : Bool) (class : Class) → (now ≡ true → full ≡ true) → changes full class ≡ false → changes now class ≡ false
+changes_less true now Session less none = absurd cc
+changes_less false true Session less none = let clash : false ≡ true = less refl in absurd cc
+changes_less false false Session less none = refl
+changes_less full now Read less none = none
+changes_less full now PrimaryRead less none = none
+changes_less full now Write less none = none
+changes_less full now Begin less none = none
+changes_less full now BeginReadOnly less none = none
+changes_less full now Commit less none = none
+changes_less full now Rollback less none = none
+changes_less full now AutocommitOn less none = none
+changes_less full now AutocommitOff less none = none
+changes_less full now TrxLocal less none = none
+changes_less full now Ddl less none = none
+changes_less full now Forbidden less none = none
+changes_less full now Other less none = none
+
+pub less_full : (config : Config) (past now : List Item) → Shrinks (statements config past).history (statements config now).history → IsFull config now → IsFull config past
+less_full config past now shrinks full =
+    let less = shorter shrinks in
+    elim (cases_lt (length (statements config past).history) config.history_limit) [
+      | inl below ↦
+          let room = lt-ltb (length (statements config now).history) config.history_limit (omega arith) in
+          let clash : false ≡ true = sym (ap not room) ∙ full in absurd cc
+      | inr above ↦ ap not (le-ltb (length (statements config past).history) config.history_limit above)
+    ]
+
+pub refused_full : (config : Config) (past : List Item) (number : ℕ) (error : ProxyError) → IsFull config (Puts (Tells number (Refuses error)) ∷ past)
+    → IsFull config past
+refused_full config past number error = less_full config past (Puts (Tells number (Refuses error)) ∷ past) (refused_moves config past number error)
 
 -- An item that changes nothing of it
 
 data IsQuiet (config : Config) (item : Item) (past : List Item) : Type 0 where
   quiet : ((command : Command) → pending (item ∷ past) ≡ Some command → pending past ≡ Some command)
-      → transaction config (item ∷ past) ≡ transaction config past → is_full config (item ∷ past) ≡ is_full config past
+      → transaction config (item ∷ past) ≡ transaction config past → (IsFull config (item ∷ past) → IsFull config past)
       → (routing config (item ∷ past)).target ≡ (routing config past).target → found_last (item ∷ past) ≡ found_last past
       → found_lately (item ∷ past) ≡ found_lately past → ((link : ℕ) → sent_on (item ∷ past) ≡ Some link → sent_on past ≡ Some link)
       → kept_on (item ∷ past) ≡ kept_on past → ((link : ℕ) → server_of link (item ∷ past) ≡ server_of link past) → IsQuiet config item past
@@ -56,8 +97,8 @@ data IsQuiet (config : Config) (item : Item) (past : List Item) : Type 0 where
 still : {config : Config} {past : List Item} {item : Item} → IsQuiet config item past → Settled config past → Settled config (item ∷ past)
 still {config} {past} {item} (quiet w t f r l y o k s) its = record {
   bars = λ command p only.
-      ap (λ (full : Bool). changes full (class_of_command command)) f
-      ∙ its.bars command (w command p) (sym (ap (λ (x : Transaction). x.state.opened) t) ∙ only);
+      changes_less (is_full config.history_limit (statements config past)) (is_full config.history_limit (statements config (item ∷ past)))
+      (class_of_command command) f (its.bars command (w command p) (sym (ap (λ (x : Transaction). x.state.opened) t) ∙ only));
   leaves = λ command server p found.
       ap (λ (x : Transaction). may_leave_primary (class_of_command command) x.state.autocommit false) t
       ∙ its.leaves command server (w command p) (sym l ∙ found);
@@ -196,8 +237,10 @@ module _ (config : Config) (past : List Item) (its : Settled config past) where
   taken it number payload took = record {
     bars = λ command p only.
         let so = took_so config payload it number past took in
-        taken_changes_none (context config past) payload number past command so.0 ((only_reads (transaction config past).state.opened).1 only)
-        (subst (λ (judged : Judged). pending (Takes judged number ∷ past) ≡ Some command) so.1 p);
+        changes_less (is_full config.history_limit (statements config past)) (is_full config.history_limit (statements config (Takes it number ∷ past)))
+        (class_of_command command) (less_full config past (Takes it number ∷ past) (moves config past (Takes it number) tt))
+        (taken_changes_none (situation config past) (statements config past) payload number past command so.0
+        ((only_reads (transaction config past).state.opened).1 only) (subst (λ (judged : Judged). pending (Takes judged number ∷ past) ≡ Some command) so.1 p));
     leaves = λ command server p found. absurd cc;
     aims = refl;
     lately = λ found e. absurd cc;
@@ -209,9 +252,9 @@ module _ (config : Config) (past : List Item) (its : Settled config past) where
 
   -- It is sent
 
-  sent : (link : ℕ) (command : Command) → config.accounts ≢ [] → IsRecord config (Puts (Sends link (Asks command)) ∷ past)
-      → Settled config (Puts (Sends link (Asks command)) ∷ past)
-  sent link command some legal = record {
+  sent : (link : ℕ) (command : Command) (id : Option ℕ) → config.accounts ≢ [] → IsRecord config (Puts (Sends link (Asks command id)) ∷ past)
+      → Settled config (Puts (Sends link (Asks command id)) ∷ past)
+  sent link command id some legal = record {
     bars = its.bars;
     leaves = its.leaves;
     aims = its.aims;
@@ -223,7 +266,7 @@ module _ (config : Config) (past : List Item) (its : Settled config past) where
   }
     where
       aimed : pinned config past ≡ None → Aimed link past
-      aimed free = goes_where_found config past link command some legal free
+      aimed free = goes_where_found config past link command id some legal free
 
       kept_before : (kept : Option ℕ) → kept_on past ≡ kept
           → or_link (kept_by (class_of_command command) link kept) (transaction config past).link ≡ None → pinned config past ≡ None
@@ -234,7 +277,7 @@ module _ (config : Config) (past : List Item) (its : Settled config past) where
 
       by_test : (at : ℕ) (test : Bool) → keeps (class_of_command command) ≡ test → (if test then Some link else None) ≡ Some at → AtPrimary at past
       by_test at true t e =
-          let caused = causes config (Puts (Sends link (Asks command)) ∷ past) legal in
+          let caused = causes config (Puts (Sends link (Asks command id)) ∷ past) legal in
           subst (λ (l : ℕ). AtPrimary l past) (same_some link at e)
           (kept_at (keeps_is (class_of_command command) t) (where_it_goes config past link command its caused.0.0.waits caused.0.2 aimed))
       by_test at false t e = absurd cc
@@ -245,13 +288,13 @@ module _ (config : Config) (past : List Item) (its : Settled config past) where
 
   -- Its reply ends
 
-  full_so : config.history_limit ≤ length (accepted past) → is_full config past ≡ true
-  full_so above = ap not (le-ltb (length (accepted past)) config.history_limit above)
+  full_so : config.history_limit ≤ length (statements config past).history → IsFull config past
+  full_so above = ap not (le-ltb (length (statements config past).history) config.history_limit above)
 
-  module _ (number link : ℕ) (command : Command) (payload : Payload) (outcome : Outcome) (recording : Recording)
-      (legal : IsRecord config (Puts (Tells number (Passes link command payload (Some outcome) recording)) ∷ past)) where
-    caused : AreCaused config (Puts (Tells number (Passes link command payload (Some outcome) recording)) ∷ past)
-    caused = causes config (Puts (Tells number (Passes link command payload (Some outcome) recording)) ∷ past) legal
+  module _ (number link : ℕ) (command : Command) (payload : Payload) (ending : Ending) (recording : Recording)
+      (legal : IsRecord config (Puts (Tells number (Passes link command payload (Some ending) recording)) ∷ past)) where
+    caused : AreCaused config (Puts (Tells number (Passes link command payload (Some ending) recording)) ∷ past)
+    caused = causes config (Puts (Tells number (Passes link command payload (Some ending) recording)) ∷ past) legal
 
     waits : pending past ≡ Some command
     waits = caused.0.0.of_reply.pending.waits
@@ -264,8 +307,8 @@ module _ (config : Config) (past : List Item) (its : Settled config past) where
     its_there : Where config link (class_by_pending (pending past)) past
     its_there = subst (λ (found : Option Command). Where config link (class_by_pending found) past) (sym waits) there
 
-    ended : ((at : ℕ) → kept_on (Puts (Tells number (Passes link command payload (Some outcome) recording)) ∷ past) ≡ Some at → AtPrimary at past)
-        → Settled config (Puts (Tells number (Passes link command payload (Some outcome) recording)) ∷ past)
+    ended : ((at : ℕ) → kept_on (Puts (Tells number (Passes link command payload (Some ending) recording)) ∷ past) ≡ Some at → AtPrimary at past)
+        → Settled config (Puts (Tells number (Passes link command payload (Some ending) recording)) ∷ past)
     ended kept = record {
       bars = λ other p only. absurd cc;
       leaves = λ other server p found. absurd cc;
@@ -273,21 +316,21 @@ module _ (config : Config) (past : List Item) (its : Settled config past) where
       lately = its.lately;
       goes = λ at e pin. absurd cc;
       placed = answered_placed link (pending past) (transaction config past) its.placed
-          (speaks (pinned config past) link (class_by_pending (pending past)) (routing config past)) outcome;
+          (speaks (pinned config past) link (class_by_pending (pending past)) (routing config past)) ending.outcome;
       stays = kept;
-      writes = λ at h opened. writes_then config past link (pending past) its its_there at outcome h opened;
+      writes = λ at h opened. writes_then config past link (pending past) its its_there at ending.outcome h opened;
     }
 
-  told : (number link : ℕ) (command : Command) (payload : Payload) (outcome : Outcome) (recording : Recording)
-      → IsRecord config (Puts (Tells number (Passes link command payload (Some outcome) recording)) ∷ past)
-      → Settled config (Puts (Tells number (Passes link command payload (Some outcome) recording)) ∷ past)
-  told number link command payload outcome Nothing legal = ended number link command payload outcome Nothing legal its.stays
-  told number link command payload outcome Accepts legal = ended number link command payload outcome Accepts legal its.stays
-  told number link command payload outcome Keeps legal =
-      ended number link command payload outcome Keeps legal (λ at e.
-      let its_full = (caused number link command payload outcome Keeps legal).0.3 in
+  told : (number link : ℕ) (command : Command) (payload : Payload) (ending : Ending) (recording : Recording)
+      → IsRecord config (Puts (Tells number (Passes link command payload (Some ending) recording)) ∷ past)
+      → Settled config (Puts (Tells number (Passes link command payload (Some ending) recording)) ∷ past)
+  told number link command payload ending Nothing legal = ended number link command payload ending Nothing legal its.stays
+  told number link command payload ending Accepts legal = ended number link command payload ending Accepts legal its.stays
+  told number link command payload ending Keeps legal =
+      ended number link command payload ending Keeps legal (λ at e.
+      let its_full = (caused number link command payload ending Keeps legal).0.3 in
       subst (λ (l : ℕ). AtPrimary l past) (same_some link at e)
-      (filled_at its_full.0.class (full_so its_full.1) (there number link command payload outcome Keeps legal)))
+      (filled_at its_full.0.class (full_so its_full.1) (there number link command payload ending Keeps legal)))
 
 -- What else is given out
 
@@ -328,31 +371,33 @@ lost_aims gone r = by_test (is_at gone r.assigned)
 
 put_settled : (config : Config) (put : Put) (past : List Item) → config.accounts ≢ [] → IsRecord config (Puts put ∷ past) → Settled config past
     → Settled config (Puts put ∷ past)
-put_settled config (Tells number (Passes link command payload (Some outcome) recording)) past some legal its =
-    told config past its number link command payload outcome recording legal
+put_settled config (Tells number (Passes link command payload (Some ending) recording)) past some legal its =
+    told config past its number link command payload ending recording legal
 put_settled config (Tells number (Passes link command payload None recording)) past some legal its =
-    still (quiet (λ c e. e) refl refl refl refl refl (λ l e. e) refl (λ l. refl)) its
+    still (quiet (λ c e. e) refl (λ full. full) refl refl refl (λ l e. e) refl (λ l. refl)) its
 put_settled config (Tells number (Owns status)) past some legal its =
-    still (quiet (λ c e. e) refl refl refl refl refl (λ l e. e) refl (λ l. refl)) its
+    still (quiet (λ c e. e) refl (λ full. full) refl refl refl (λ l e. e) refl (λ l. refl)) its
 put_settled config (Tells number (Refuses error)) past some legal its =
-    still (quiet (refused_waits past number error) refl refl (refused_aims config past number error) refl refl (λ l e. e) refl (λ l. refl)) its
-put_settled config (Sends link (Asks command)) past some legal its = sent config past its link command some legal
+    still (quiet (refused_waits past number error) refl (refused_full config past number error) (refused_aims config past number error) refl refl (λ l e. e) refl (λ l. refl)) its
+put_settled config (Sends link (Asks command id)) past some legal its = sent config past its link command id some legal
 put_settled config (Sends link Prepares) past some legal its =
-    still (quiet (λ c e. e) refl refl refl refl refl (λ l e. e) refl (λ l. refl)) its
-put_settled config (Sends link (Plays command)) past some legal its =
-    still (quiet (λ c e. e) refl refl refl refl refl (λ l e. e) refl (λ l. refl)) its
+    still (quiet (λ c e. e) refl (λ full. full) refl refl refl (λ l e. e) refl (λ l. refl)) its
+put_settled config (Sends link (Plays entry)) past some legal its =
+    still (quiet (λ c e. e) refl (λ full. full) refl refl refl (λ l e. e) refl (λ l. refl)) its
 put_settled config (Opens link server login) past some legal its =
     let caused = causes config (Puts (Opens link server login) ∷ past) legal in
     opened config past its link server login caused.0.0 caused.1
 put_settled config (Drops gone cause) past some legal its =
-    still (quiet (λ c e. e) refl refl (lost_aims gone (routing config past)) refl refl
+    still (quiet (λ c e. e) refl (λ full. full) (lost_aims gone (routing config past)) refl refl
     (λ l e. (unless_before gone l (sent_on past) e).0) refl (λ l. refl)) its
 put_settled config (Hands packets) past some legal its =
-    still (quiet (λ c e. e) refl refl refl refl refl (λ l e. e) refl (λ l. refl)) its
-put_settled config Routes past some legal its = still (quiet (λ c e. e) refl refl refl refl refl (λ l e. e) refl (λ l. refl)) its
+    still (quiet (λ c e. e) refl (λ full. full) refl refl refl (λ l e. e) refl (λ l. refl)) its
+put_settled config Routes past some legal its = still (quiet (λ c e. e) refl (λ full. full) refl refl refl (λ l e. e) refl (λ l. refl)) its
+put_settled config (Forgets link id) past some legal its =
+    still (quiet (λ c e. e) refl (λ full. full) refl refl refl (λ l e. e) refl (λ l. refl)) its
 put_settled config (LogsInto link packets) past some legal its =
-    still (quiet (λ c e. e) refl refl refl refl refl (λ l e. e) refl (λ l. refl)) its
-put_settled config (Closes reason) past some legal its = still (quiet (λ c e. e) refl refl refl refl refl (λ l e. e) refl (λ l. refl)) its
+    still (quiet (λ c e. e) refl (λ full. full) refl refl refl (λ l e. e) refl (λ l. refl)) its
+put_settled config (Closes reason) past some legal its = still (quiet (λ c e. e) refl (λ full. full) refl refl refl (λ l e. e) refl (λ l. refl)) its
 
 item_settled : (config : Config) (item : Item) (past : List Item) → config.accounts ≢ [] → IsRecord config (item ∷ past) → Settled config past
     → Settled config (item ∷ past)
@@ -363,22 +408,22 @@ item_settled config (Routed words loads next found) past some legal its = routed
 item_settled config (Takes it number) past some legal its =
     let took = (causes config (Takes it number ∷ past) legal).1 in taken config past its it number took.0 took.1
 item_settled config (LinkLost gone) past some legal its =
-    still (quiet (λ c e. e) refl refl (lost_aims gone (routing config past)) refl refl
+    still (quiet (λ c e. e) refl (λ full. full) (lost_aims gone (routing config past)) refl refl
     (λ l e. (unless_before gone l (sent_on past) e).0) refl (λ l. refl)) its
 item_settled config (Accepted session scramble reading) past some legal its =
-    still (quiet (λ c e. e) refl refl refl refl refl (λ l e. e) refl (λ l. refl)) its
-item_settled config (TurnsAway told) past some legal its = still (quiet (λ c e. e) refl refl refl refl refl (λ l e. e) refl (λ l. refl)) its
-item_settled config (ClientBytes bytes) past some legal its = still (quiet (λ c e. e) refl refl refl refl refl (λ l e. e) refl (λ l. refl)) its
-item_settled config (LinkReady link) past some legal its = still (quiet (λ c e. e) refl refl refl refl refl (λ l e. e) refl (λ l. refl)) its
+    still (quiet (λ c e. e) refl (λ full. full) refl refl refl (λ l e. e) refl (λ l. refl)) its
+item_settled config (TurnsAway told) past some legal its = still (quiet (λ c e. e) refl (λ full. full) refl refl refl (λ l e. e) refl (λ l. refl)) its
+item_settled config (ClientBytes bytes) past some legal its = still (quiet (λ c e. e) refl (λ full. full) refl refl refl (λ l e. e) refl (λ l. refl)) its
+item_settled config (LinkReady link) past some legal its = still (quiet (λ c e. e) refl (λ full. full) refl refl refl (λ l e. e) refl (λ l. refl)) its
 item_settled config (LinkBytes link bytes) past some legal its =
-    still (quiet (λ c e. e) refl refl refl refl refl (λ l e. e) refl (λ l. refl)) its
-item_settled config ClientGone past some legal its = still (quiet (λ c e. e) refl refl refl refl refl (λ l e. e) refl (λ l. refl)) its
-item_settled config (Ticks reading) past some legal its = still (quiet (λ c e. e) refl refl refl refl refl (λ l e. e) refl (λ l. refl)) its
-item_settled config (Comes link said) past some legal its = still (quiet (λ c e. e) refl refl refl refl refl (λ l e. e) refl (λ l. refl)) its
-item_settled config (Connects said) past some legal its = still (quiet (λ c e. e) refl refl refl refl refl (λ l e. e) refl (λ l. refl)) its
-item_settled config (Floods bytes) past some legal its = still (quiet (λ c e. e) refl refl refl refl refl (λ l e. e) refl (λ l. refl)) its
+    still (quiet (λ c e. e) refl (λ full. full) refl refl refl (λ l e. e) refl (λ l. refl)) its
+item_settled config ClientGone past some legal its = still (quiet (λ c e. e) refl (λ full. full) refl refl refl (λ l e. e) refl (λ l. refl)) its
+item_settled config (Ticks reading) past some legal its = still (quiet (λ c e. e) refl (λ full. full) refl refl refl (λ l e. e) refl (λ l. refl)) its
+item_settled config (Comes link said) past some legal its = still (quiet (λ c e. e) refl (less_full config past (Comes link said ∷ past) (moves config past (Comes link said) tt)) refl refl refl (λ l e. e) refl (λ l. refl)) its
+item_settled config (Connects said) past some legal its = still (quiet (λ c e. e) refl (λ full. full) refl refl refl (λ l e. e) refl (λ l. refl)) its
+item_settled config (Floods bytes) past some legal its = still (quiet (λ c e. e) refl (λ full. full) refl refl refl (λ l e. e) refl (λ l. refl)) its
 item_settled config (Starves made number) past some legal its =
-    still (quiet (λ c e. e) refl refl refl refl refl (λ l e. e) refl (λ l. refl)) its
+    still (quiet (λ c e. e) refl (λ full. full) refl refl refl (λ l e. e) refl (λ l. refl)) its
 
 pub writes_at_primary : WritesAtPrimary
 writes_at_primary config past link some legal h opened =

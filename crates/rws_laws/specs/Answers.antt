@@ -9,10 +9,12 @@ use Rattle.rws_link.specs.Stepping.{Exchange, LinkState, LogsIn, Rests}
 use Rattle.rws_route.specs.declared.destination.Target.TheVariants.{NoPrimary as Nowhere}
 use Rattle.rws_config.specs.declared.config.Config.{Config}
 use Rattle.rws_config.specs.declared.limits.TheConstants.{FLOOD_ROOM, SERVER_PAYLOAD}
-use Rattle.rws_record.specs.declared.command.Command.{Command}
+use Rattle.rws_commands.specs.declared.command.Command.{Command}
+use Rattle.rws_commands.specs.declared.history.HistoryEntry.{HistoryEntry}
+use Rattle.rws_commands.specs.Statements.{next_handle, unplayed}
 use Rattle.rws_record.specs.Item.{Item}
 use Rattle.rws_record.specs.Item.Purpose.{Plays}
-use Rattle.rws_record.specs.Values.{accepted, asked_on, cursor, fronted, goes_on, held, links, linked, is_up, exchange, pinned, prepared_handle, link_held, pending, sent_on, told, is_over}
+use Rattle.rws_record.specs.Values.{asked_on, cursor, fronted, goes_on, held, links, linked, is_up, exchange, pinned, link_held, pending, sent_on, statements, told, is_over}
 use Rattle.rws_laws.specs.Client.{IsAwaited}
 use Rattle.rws_laws.specs.Servers.{came_on}
 use Rattle.rws_laws.specs.Causes.{found_last}
@@ -25,12 +27,12 @@ pub data Waits (config : Config) (command : Command) (past : List Item) : Type 0
   for_link : (link : ℕ) → Contains (links past) link → goes_on config past ≡ Some link → sent_on past ≡ None → is_up link past ≡ false
       → linked link past ≢ Rests → Waits config command past
   -- for that link, which is prepared and plays an entry of the history: the reply to it is awaited
-  for_entry : (link : ℕ) (entry : Command) (e : Exchange) → Contains (links past) link → goes_on config past ≡ Some link → sent_on past ≡ None
+  for_entry : (link : ℕ) (entry : HistoryEntry) (e : Exchange) → Contains (links past) link → goes_on config past ≡ Some link → sent_on past ≡ None
       → asked_on link past ≡ Some (Plays entry) → exchange link past ≡ Some e → Waits config command past
   -- for its reply: it was sent there, and all that came of the reply was told in the client's form
   for_reply : (link number : ℕ) → Contains (links past) link → goes_on config past ≡ Some link → sent_on past ≡ Some link
       → exchange link past ≡ Some (record { kind = command.kind; next = number; sofar = came_on link past })
-      → told past ≡ client_reply command.kind prepared_handle (came_on link past) → Waits config command past
+      → told past ≡ client_reply command.kind (next_handle (statements config past)) (came_on link past) → Waits config command past
   -- for nothing that may come: the settings have no account, so a session that began with a link has no login for another
   for_account : config.accounts ≡ [] → sent_on past ≡ None → Waits config command past
 
@@ -58,7 +60,7 @@ pub record HasAnswered (config : Config) (past : List Item) : Type 0 where
   pub asked : (link : ℕ) → Contains (links past) link → exchange link past ≡ None → IsIdle (linked link past)
   -- and one that rests is prepared, and has played the history
   pub prepared : (link : ℕ) → Contains (links past) link → linked link past ≡ Rests → is_up link past ≡ true
-  pub played : (link : ℕ) → Contains (links past) link → linked link past ≡ Rests → cursor link past ≡ length (accepted past)
+  pub played : (link : ℕ) → Contains (links past) link → linked link past ≡ Rests → unplayed (cursor link past) (statements config past) ≡ None
 
 -- A session that goes on has answered; one that is over has given up its links.
 pub record IsAnswered (config : Config) (past : List Item) : Type 0 where

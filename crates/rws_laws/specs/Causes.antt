@@ -1,6 +1,7 @@
 -- Why each item of a session's record stands where it stands. This is a second reading of the record: it says what must
 -- have come and what must have been given out below a place, and names no rule by which a session goes on.
-use Rattle.std.specs.Prelude.{◌≡◌, ◌≢◌, ◌⊎◌, ◌↔◌, ℕ, ◌+◌, ◌<◌, ◌≤◌, length, Bool, true, false, List, [], ◌∷◌, ◌++◌, Option, Some, None, Contains, slice_get}
+use Rattle.std.specs.Prelude.{◌≡◌, ◌≢◌, ◌⊎◌, ◌↔◌, ℕ, ◌+◌, ◌<◌, ◌≤◌, length, Bool, true, false, List, [], ◌∷◌, ◌++◌, Option, Some, None, Ok, Err, Contains}
+use Rattle.std.specs.Option.{option_and_then}
 use Rattle.rws_wire.specs.Packets.{number_behind}
 use Rattle.rws_wire.specs.Payloads.{first_payload}
 use Rattle.rws_wire.specs.Payloads.Beginning.{Whole}
@@ -30,20 +31,68 @@ use Rattle.rws_route.specs.declared.destination.Target.{Target}
 use Rattle.rws_route.specs.declared.destination.Target.TheVariants.{Primary, Replica, NoPrimary as Nowhere}
 use Rattle.rws_config.specs.declared.config.Config.{Config}
 use Rattle.rws_config.specs.declared.limits.TheConstants.{SERVER_PAYLOAD}
-use Rattle.rws_record.specs.declared.command.Command.{Command}
-use Rattle.rws_record.specs.declared.proxy_error.ProxyError.TheVariants.{UnknownCommand, NotSupported, NotInReadOnly, TooManyConnections, CommandTooLarge, NoPrimary, OutOfMemory}
-use Rattle.rws_record.specs.declared.request.Request.TheVariants as requests
-use Rattle.rws_record.specs.Item.{Item, Put, Recording}
+use Rattle.rws_commands.specs.declared.command.Command.{Command}
+use Rattle.rws_handles.specs.declared.fault.ExecuteFault.TheVariants.{BadExecute as IsBadExecute}
+use Rattle.rws_handles.specs.PlainForm.{Plain, asks_cursor, handle_in}
+use Rattle.rws_handles.specs.Prepared.{LongData, Prepared, long_bytes}
+use Rattle.rws_handles.specs.Slots.{is_crowded}
+use Rattle.rws_handles.specs.Table.{execute_of, open_at}
+use Rattle.rws_commands.specs.declared.history.HistoryEntry.{HistoryEntry}
+use Rattle.rws_commands.specs.declared.judged.Judged.{Judged}
+use Rattle.rws_commands.specs.declared.judged.Judged.TheVariants.{IsSilent}
+use Rattle.rws_commands.specs.declared.proxy_error.ProxyError.TheVariants.{UnknownCommand, NotSupported, UnknownStatement, BadExecute, TooManyStatements, NotInReadOnly, TooManyConnections, CommandTooLarge, NoPrimary, OutOfMemory}
+use Rattle.rws_commands.specs.declared.request.Request.TheVariants as requests
+use Rattle.rws_record.specs.Item.{Ending, Item, Put, Recording}
 use Rattle.rws_record.specs.Item.Item.{Accepted, TurnsAway, Began, LinkReady, LinkBytes, LinkLost, Routed, Comes, Connects, Takes, Floods, Puts, Starves}
-use Rattle.rws_record.specs.Item.Put.{Hands, Tells, Routes, Opens, LogsInto, Sends, Drops, Closes}
+use Rattle.rws_record.specs.Item.Put.{Hands, Tells, Routes, Opens, LogsInto, Sends, Forgets, Drops, Closes}
 use Rattle.rws_record.specs.Item.Tell.{Passes, Owns, Refuses}
 use Rattle.rws_record.specs.Item.Purpose.{Prepares, Asks, Plays}
 use Rattle.rws_record.specs.Item.Recording.{Nothing, Accepts, Keeps}
-use Rattle.rws_record.specs.Requests.{arguments_of, request_of}
-use Rattle.rws_record.specs.Values.{accepted, class_of_command, cursor, fronted, goes_on, login_of, links, kept_on, linked, is_up, asked_on, exchange, now, prepared_handle, link_held, pending, routing, sent_on, server_of, told, told_from, transaction, transaction_bytes, is_over, is_starved}
+use Rattle.rws_commands.specs.Requests.{arguments_of, request_of}
+use Rattle.rws_commands.specs.Commands.{added, as_executed, class_of_command, id_for}
+use Rattle.rws_commands.specs.Statements.{next_handle, piece_in, stale_on, unplayed}
+use Rattle.rws_record.specs.Values.{cursor, fronted, goes_on, login_of, links, kept_on, linked, is_up, asked_on, exchange, named_on, now, link_held, pending, routing, sent_on, server_of, statements, told, told_from, transaction, transaction_bytes, is_over, is_starved}
 use Rattle.rws_record.specs.Record.{CanBeMade, want_number}
 use Rattle.rws_laws.specs.Client.{Took, IsPending, Flooded, IsSaid, Handed, WasRefused}
 use Rattle.rws_laws.specs.Servers.{came_on, replied, IsNoReply, IsUnasked, IsGarbled, LogsOn, Entered, NotEntered, IsLostFor, IsUnprepared, Lost, WasPrepared, Differs}
+
+-- The client's prepared statements
+
+-- what stands below the newest item
+abbrev pub beneath : List Item → List Item
+beneath [] = []
+beneath (item ∷ past) = past
+
+-- the statements as they stand, and the open one that the handle in a command's bytes names
+abbrev pub statement_named : Config → List ℕ → List Item → Option Prepared
+statement_named config payload past = option_and_then (open_at (statements config past).table) (handle_in payload)
+
+-- The command is an execute, and this is its plain form.
+pub record Executes (config : Config) (payload : List ℕ) (plain : Plain) (past : List Item) : Type 0 where
+  pub request : request_of payload ≡ requests.Execute
+  pub form : execute_of (statements config past).table payload ≡ Ok plain
+
+-- The command is long data for an open statement, which with it would hold so many bytes, more than a command may have.
+pub record HoldsTooMuch (config : Config) (payload : List ℕ) (bytes : ℕ) (past : List Item) : Type 0 where
+  pub request : request_of payload ≡ requests.SendLongData
+  pub handle : ℕ
+  pub piece : LongData
+  pub said : piece_in payload ≡ Some (handle, piece)
+  pub statement : Prepared
+  pub named : open_at (statements config past).table handle ≡ Some statement
+  pub holds : bytes ≡ added (long_bytes statement.long_data) (length piece.bytes)
+  pub above : config.command_bytes < bytes
+
+-- A command of these bytes, to which nobody answers: the client closes a statement, or sends long data.
+abbrev pub IsUnanswered : List ℕ → Type 0
+IsUnanswered payload = (request_of payload ≡ requests.CloseStatement) ⊎ (request_of payload ≡ requests.SendLongData)
+
+-- what it is taken for that has no answer
+abbrev pub IsSilence : Judged → List ℕ → Type 0
+IsSilence IsSilent payload = IsUnanswered payload
+IsSilence _ payload = Unit {0}
+
+-- Replies
 
 -- The link is the one on which the pending command was sent; all that the client was passed since it was taken up came from
 -- there.
@@ -63,7 +112,7 @@ pub record IsPassed (config : Config) (number link : ℕ) (command : Command) (p
   pub came : replied past ≡ Some link
   pub has : Contains (links past) link
   pub of_reply : IsOfReply config link command past
-  pub in_form : told past ++ payload ∷ [] ≡ client_reply command.kind prepared_handle (came_on link past)
+  pub in_form : told past ++ payload ∷ [] ≡ client_reply command.kind (next_handle (statements config (beneath past))) (came_on link past)
   pub counts : number ≡ number_behind_all (told past) command.number
 
 -- Where a command goes
@@ -140,17 +189,18 @@ pub record HasSet (command : Command) (outcome : Outcome) (past : List Item) : T
 -- What the end of a reply means for the session's history: where its command has set the session, it is added, or keeps the session where
 -- there is no room for it.
 abbrev pub IsRecorded : Config → Command → Outcome → Recording → List Item → Type 0
-IsRecorded config command outcome Accepts past = HasSet command outcome past × (length (accepted past) < config.history_limit)
-IsRecorded config command outcome Keeps past = HasSet command outcome past × (config.history_limit ≤ length (accepted past))
+IsRecorded config command outcome Accepts past = HasSet command outcome past × (length (statements config past).history < config.history_limit)
+IsRecorded config command outcome Keeps past = HasSet command outcome past × (config.history_limit ≤ length (statements config past).history)
 IsRecorded config command outcome Nothing past = ¬ HasSet command outcome past
 
 -- The session was kept on a link just now, by a command that may change anything, or by one that set the session and found its history
 -- full; other links may have been given up since.
 pub data JustKept (config : Config) (link : ℕ) : List Item → Type 0 where
-  sends : {command : Command} {past : List Item} → class_of_command command ≡ Other → kept_on past ≡ None
-      → JustKept config link (Puts (Sends link (Asks command)) ∷ past)
-  fills : {number : ℕ} {command : Command} {payload : Payload} {outcome : Outcome} {past : List Item} → IsRecorded config command outcome Keeps past
-      → JustKept config link (Puts (Tells number (Passes link command payload (Some outcome) Keeps)) ∷ past)
+  sends : {command : Command} {id : Option ℕ} {past : List Item} → class_of_command command ≡ Other → kept_on past ≡ None
+      → JustKept config link (Puts (Sends link (Asks command id)) ∷ past)
+  fills : {number : ℕ} {command : Command} {payload : Payload} {ending : Ending} {past : List Item}
+      → IsRecorded config command ending.outcome Keeps past
+      → JustKept config link (Puts (Tells number (Passes link command payload (Some ending) Keeps)) ∷ past)
   gives_up : {other : ℕ} {past : List Item} → JustKept config link past → JustKept config link (Puts (Drops other Kept) ∷ past)
 
 -- What is lost with a link
@@ -205,7 +255,7 @@ pub data IsBarred (config : Config) (past : List Item) : Class → Type 0 where
   saves : IsBarred config past TrxLocal
   defines : IsBarred config past Ddl
   does_anything : IsBarred config past Other
-  has_no_room : config.history_limit ≤ length (accepted past) → IsBarred config past Session
+  has_no_room : config.history_limit ≤ length (statements config past).history → IsBarred config past Session
 
 -- Causes
 
@@ -213,38 +263,62 @@ pub data IsBarred (config : Config) (past : List Item) : Class → Type 0 where
 abbrev pub IsCaused : Config → Put → List Item → Type 0
 -- the front made the packets just now
 IsCaused config (Hands packets) past = Handed config packets past
--- what came is a whole reply with this outcome, and this is what it means for the history; or what a reply begins with
-IsCaused config (Tells number (Passes link command payload (Some outcome) recording)) past =
-    IsPassed config number link command payload past × IsReply command.kind (came_on link past) outcome
-    × (exchange link past ≡ None) × IsRecorded config command outcome recording past
+-- what came is a whole reply with this outcome, which told of this statement, and this is what it means for the history; or what a reply
+-- begins with
+IsCaused config (Tells number (Passes link command payload (Some ending) recording)) past =
+    IsPassed config number link command payload past × IsReply command.kind (came_on link past) ending.outcome
+    × (exchange link past ≡ None) × IsRecorded config command ending.outcome recording past × (ending.named ≡ named_on link past)
 IsCaused config (Tells number (Passes link command payload None Nothing)) past =
     IsPassed config number link command payload past × Begins command.kind (came_on link past)
 IsCaused config (Tells number (Passes link command payload None _)) past = ⊥
--- COM_PING; its status shows whether autocommit is on and a transaction open
+-- COM_PING, or COM_STMT_RESET of an open statement; its status shows whether autocommit is on and a transaction open
 IsCaused config (Tells number (Owns status)) past =
-    (payload : Payload) × Took config payload number past × (request_of payload ≡ requests.Ping)
+    (payload : Payload) × Took config payload number past
+    × ((request_of payload ≡ requests.Ping)
+    ⊎ ((request_of payload ≡ requests.ResetStatement)
+    × ((statement : Prepared) × (statement_named config payload (beneath past) ≡ Some statement))))
     × (status ≡ status_of (transaction config past).state)
 IsCaused config (Tells number (Refuses UnknownCommand)) past =
     (payload : Payload) × Took config payload number past × (request_of payload ≡ requests.Unknown)
--- a command that the proxy doesn't take, or a text that sets what mayn't be set
+-- a command that the proxy doesn't take, an execute of an open statement that asks for a cursor, or a text that sets what mayn't be set, be
+-- it sent or prepared
 IsCaused config (Tells number (Refuses NotSupported)) past =
     (payload : Payload) × Took config payload number past
     × ((request_of payload ≡ requests.Unsupported)
-    ⊎ ((request_of payload ≡ requests.Query) × (class_of (arguments_of payload) ≡ Refused)))
--- a text, or a database to be chosen, that the read-only transaction which is open doesn't take
+    ⊎ (((request_of payload ≡ requests.Execute)
+    × ((statement : Prepared) × (statement_named config payload (beneath past) ≡ Some statement)) × (asks_cursor payload ≡ true))
+    ⊎ (((request_of payload ≡ requests.Query) × (class_of (arguments_of payload) ≡ Refused))
+    ⊎ ((plain : Plain) × Executes config payload plain (beneath past) × (class_of plain.text ≡ Refused)))))
+-- an execute or reset of a statement that isn't open
+IsCaused config (Tells number (Refuses UnknownStatement)) past =
+    (payload : Payload) × Took config payload number past
+    × ((request_of payload ≡ requests.Execute) ⊎ (request_of payload ≡ requests.ResetStatement))
+    × (statement_named config payload (beneath past) ≡ None)
+-- an execute out of its layout
+IsCaused config (Tells number (Refuses BadExecute)) past =
+    (payload : Payload) × Took config payload number past × (request_of payload ≡ requests.Execute)
+    × (execute_of (statements config (beneath past)).table payload ≡ Err IsBadExecute)
+-- a prepare, where there are as many statements as may be
+IsCaused config (Tells number (Refuses TooManyStatements)) past =
+    (payload : Payload) × Took config payload number past × (request_of payload ≡ requests.Prepare)
+    × (is_crowded (statements config (beneath past)).table.statements ≡ true)
+-- a text, be it sent or prepared before, or what is to be set, that the read-only transaction which is open doesn't take
 IsCaused config (Tells number (Refuses NotInReadOnly)) past =
     (payload : Payload) × Took config payload number past × ((transaction config past).state.opened ≡ ReadOnly)
-    × (((request_of payload ≡ requests.Query) × IsBarred config past (class_of (arguments_of payload)))
-    ⊎ ((request_of payload ≡ requests.InitDb) × IsBarred config past Session))
+    × (((request_of payload ≡ requests.Query) × IsBarred config (beneath past) (class_of (arguments_of payload)))
+    ⊎ ((((request_of payload ≡ requests.InitDb) ⊎ (request_of payload ≡ requests.Prepare)) × IsBarred config (beneath past) Session)
+    ⊎ ((plain : Plain) × Executes config payload plain (beneath past) × IsBarred config (beneath past) (as_executed (class_of plain.text)))))
 -- a client that connected was turned away, and nothing more stands in its record
 IsCaused config (Tells number (Refuses TooManyConnections)) past = (past ≡ TurnsAway true ∷ []) × (number ≡ 0)
-IsCaused config (Tells number (Refuses CommandTooLarge)) past = (bytes : ℕ) × Flooded config bytes past × (number ≡ 1)
+-- a flood was noted, or too much long data came
+IsCaused config (Tells number (Refuses CommandTooLarge)) past =
+    ((bytes : ℕ) × Flooded config bytes past × (number ≡ 1))
+    ⊎ ((payload : Payload) × (bytes : ℕ) × Took config payload number past × HoldsTooMuch config payload bytes (beneath past))
 -- memory was wanting to a session that goes on
 IsCaused config (Tells number (Refuses OutOfMemory)) past =
     (below : List Item) × (past ≡ Starves true number ∷ below) × (is_over below ≡ false) × (number ≡ want_number config below)
 -- the pending command waited for a primary too long
 IsCaused config (Tells number (Refuses NoPrimary)) past = FindsLate config number past
-IsCaused config (Tells number (Refuses _)) past = ⊥
 -- a command is pending, it isn't known where it goes, and it doesn't wait for a primary
 IsCaused config Routes past =
     (command : Command) × IsPending config command past × (goes_on config past ≡ None) × ((routing config past).waits ≡ false)
@@ -254,21 +328,33 @@ IsCaused config (Opens link server login) past = IsOpening config link server pa
 IsCaused config (LogsInto link packets) past = LogsOn link packets past × Contains (links past) link
 -- the preamble, on a link that is logged in and not prepared
 IsCaused config (Sends link Prepares) past = Contains (links past) link × (is_up link past ≡ false) × (linked link past ≡ Rests)
--- an entry of the history, on a link that is prepared and owes no reply: the one behind those that the link has played, or led
-IsCaused config (Sends link (Plays command)) past =
+-- an entry of the history, on a link that is prepared and owes no reply, and whose server has no statement left to close: the first that the
+-- link has neither played nor led
+IsCaused config (Sends link (Plays entry)) past =
     Contains (links past) link × (is_up link past ≡ true) × WasPrepared link past × (linked link past ≡ Rests)
-    × (slice_get (accepted past) (cursor link past) ≡ Some command)
+    × (unplayed (cursor link past) (statements config past) ≡ Some entry) × (stale_on link (statements config past) ≡ None)
 -- the client's command, on the link that the session is pinned to, or that its last route gave, where that is prepared and has played
--- the history, and the command isn't out on a link that the session has
-IsCaused config (Sends link (Asks command)) past =
+-- the history, and the command isn't out on a link that the session has; an execute goes under the id that the link's server has for its
+-- statement
+IsCaused config (Sends link (Asks command id)) past =
     IsPending config command past × (sent_on past ≡ None) × (goes_on config past ≡ Some link) × Contains (links past) link
-    × (is_up link past ≡ true) × WasPrepared link past × (linked link past ≡ Rests) × (cursor link past ≡ length (accepted past))
+    × (is_up link past ≡ true) × WasPrepared link past × (linked link past ≡ Rests)
+    × (unplayed (cursor link past) (statements config past) ≡ None) × (stale_on link (statements config past) ≡ None)
+    × (id_for link command.body (statements config past).table.links ≡ id)
+-- on a link that is prepared and owes no reply, the least id that its server gave to a statement that has left
+IsCaused config (Forgets link id) past =
+    Contains (links past) link × (is_up link past ≡ true) × WasPrepared link past × (linked link past ≡ Rests)
+    × (stale_on link (statements config past) ≡ Some id)
 IsCaused config (Closes Quit) past =
     (payload : Payload) × (number : ℕ) × Took config payload number past × (request_of payload ≡ requests.Quit)
 IsCaused config (Closes Handshake) past = WasRefused config Handshake past
 IsCaused config (Closes Access) past = WasRefused config Access past
 IsCaused config (Closes (OutOfOrder want got)) past = WasRefused config (OutOfOrder want got) past
-IsCaused config (Closes (TooLarge length)) past = WasRefused config (TooLarge length) past
+-- in a packet's head it said how long the payload is; or with long data that came its statement would hold so much, and it was told so
+IsCaused config (Closes (TooLarge bytes)) past =
+    WasRefused config (TooLarge bytes) past
+    ⊎ ((taken : List Item) × (number : ℕ) × (payload : Payload) × (past ≡ Puts (Tells number (Refuses CommandTooLarge)) ∷ taken)
+    × Took config payload number taken × HoldsTooMuch config payload bytes (beneath taken))
 -- the client was turned away; one that connected was told before
 IsCaused config (Closes Connections) past =
     (past ≡ TurnsAway false ∷ []) ⊎ (past ≡ Puts (Tells 0 (Refuses TooManyConnections)) ∷ TurnsAway true ∷ [])
@@ -298,7 +384,7 @@ IsCaused config (Drops link BadWire) past =
 IsCaused config (Drops link BadReply) past =
     (((command : Command) × (payload : Payload) × IsOfReply config link command past × IsNoReply command.kind link payload past)
     ⊎ (((payload : Payload) × (asked_on link past ≡ Some Prepares) × IsNoReply QueryReply link payload past)
-    ⊎ (((command : Command) × (payload : Payload) × (asked_on link past ≡ Some (Plays command)) × IsNoReply command.kind link payload past)
+    ⊎ (((entry : HistoryEntry) × (payload : Payload) × (asked_on link past ≡ Some (Plays entry)) × IsNoReply entry.kind link payload past)
     ⊎ NotEntered link losses.BadReply past)))
     × Contains (links past) link
 IsCaused config (Drops link Unasked) past = IsUnasked link past × Contains (links past) link
@@ -311,7 +397,7 @@ IsCaused config (Drops link (LoginFails code)) past =
 IsCaused config (Drops link End) past = (is_over past ≡ true) × Contains (links past) link
 -- the session was kept on another link just now
 IsCaused config (Drops link Kept) past = (kept : ℕ) × JustKept config kept past × (kept ≢ link) × Contains (links past) link
--- the server answered an entry of the history by an error
+-- the server answered an entry of the history by an error, or prepared it with other counts
 IsCaused config (Drops link SessionDiffers) past = Differs link past × Contains (links past) link
 IsCaused config (Drops link _) past = ⊥
 
@@ -342,7 +428,8 @@ IsRead config (Comes link (steps.Lost cause)) past =
     IsLostFor link cause (Comes link (steps.Lost cause) ∷ past) × Contains (links past) link
 IsRead config (Comes link steps.Idle) past = ⊥
 IsRead config (Connects said) past = (pending past ≡ None) × IsSaid config (fronted config past) said
-IsRead config (Takes it number) past = (payload : Payload) × Took config payload number (Takes it number ∷ past)
+IsRead config (Takes it number) past =
+    (payload : Payload) × Took config payload number (Takes it number ∷ past) × IsSilence it payload
 IsRead config (Floods bytes) past = Flooded config bytes (Floods bytes ∷ past)
 IsRead config _ past = Unit {0}
 

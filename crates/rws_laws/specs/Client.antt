@@ -24,14 +24,14 @@ use Rattle.rws_front.specs.Fronting.{Fronting}
 use Rattle.rws_front.specs.Messages.{greeting_of, switch_of, welcome}
 use Rattle.rws_front.specs.Connection.{fault_number, is_native, response_in}
 use Rattle.rws_front.specs.Laws.{IsProved}
-use Rattle.rws_record.specs.declared.command.Command.{Command}
+use Rattle.rws_commands.specs.declared.command.Command.{Command}
 use Rattle.rws_record.specs.Item.{Item}
 use Rattle.rws_record.specs.Item.Item.{Connects, Takes, Floods, Puts}
-use Rattle.rws_record.specs.Item.Judged.{Serves}
+use Rattle.rws_commands.specs.declared.judged.Judged.TheVariants.{Serves}
 use Rattle.rws_record.specs.Item.Put.{Hands}
-use Rattle.rws_record.specs.Judging.{judged}
-use Rattle.rws_record.specs.Values.{fronted, held, pending}
-use Rattle.rws_record.specs.Rules.{context}
+use Rattle.rws_commands.specs.Judging.{judged}
+use Rattle.rws_record.specs.Values.{fronted, held, pending, statements}
+use Rattle.rws_record.specs.Rules.{situation}
 
 -- what the client's bytes begin with, whose next packet is to have this number
 abbrev pub begins_with : Config → Fronting → (first : ℕ) → Beginning
@@ -44,11 +44,11 @@ begins_with config front first = first_payload config.command_bytes first front.
 pub data Took (config : Config) (payload : List ℕ) (number : ℕ) : List Item → Type 0 where
   took : {past : List Item} {rest : List ℕ} → pending past ≡ None → (fronted config past).phase ≡ Commands
       → begins_with config (fronted config past) 0 ≡ Whole payload number rest
-      → Took config payload number (Takes (judged (context config past) payload number) number ∷ past)
+      → Took config payload number (Takes (judged (situation config past) (statements config past) payload number) number ∷ past)
 
 -- the command was taken up from the client's bytes, and is one for a server
 pub data Asked (config : Config) (command : Command) : List Item → Type 0 where
-  here : {past : List Item} → Took config command.payload command.number (Takes (Serves command) command.number ∷ past)
+  here : {past : List Item} {payload : List ℕ} → Took config payload command.number (Takes (Serves command) command.number ∷ past)
       → Asked config command (Takes (Serves command) command.number ∷ past)
   before : {item : Item} {past : List Item} → Asked config command past → Asked config command (item ∷ past)
 

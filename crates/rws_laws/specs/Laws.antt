@@ -1,6 +1,11 @@
 -- Laws about records and runs. Each is carried by a public function whose contract is the law.
-use Rattle.std.specs.Prelude.{◌≡◌, ◌≢◌, ◌⊎◌, ℕ, ◌-◌, ◌^◌, min, false, List, [], ◌∷◌, ◌++◌, length, Option, Some, None, Contains}
+use Rattle.std.specs.Prelude.{◌≡◌, ◌≢◌, ◌⊎◌, ℕ, ◌-◌, ◌^◌, min, false, List, [], ◌∷◌, ◌++◌, Option, Some, None, Ok, Contains, Bool}
 use Rattle.rws_wire.specs.Numbers.{AreBytes}
+use Rattle.rws_msgs.specs.declared.prepare_ok.PrepareOk.{PrepareOk}
+use Rattle.rws_reply.specs.declared.kind.Outcome.TheVariants.{Done}
+use Rattle.rws_reply.specs.declared.kind.Progress.TheVariants.{Whole as Ends}
+use Rattle.rws_reply.specs.declared.role.Role.{Role}
+use Rattle.rws_link.specs.declared.step.LinkStep.TheVariants as steps
 use Rattle.rws_reply.specs.declared.kind.Outcome.{Outcome}
 use Rattle.rws_reply.specs.Replies.{Payload, IsReply}
 use Rattle.rws_reply.specs.ClientForm.{without_state}
@@ -8,21 +13,33 @@ use Rattle.rws_route.specs.declared.destination.Target.{Target}
 use Rattle.rws_route.specs.declared.destination.Target.TheVariants.{Primary}
 use Rattle.rws_trx.specs.declared.state.Open.TheVariants.{ReadWrite, ReadOnly}
 use Rattle.rws_config.specs.declared.config.Config.{Config}
-use Rattle.rws_record.specs.declared.command.Command.{Command}
-use Rattle.rws_record.specs.Item.{Item, Purpose, Recording}
-use Rattle.rws_record.specs.Item.Item.{LinkBytes, Routed, Puts}
+use Rattle.rws_handles.specs.PlainForm.{number_in, Plain, spelled}
+use Rattle.rws_handles.specs.Table.{execute_of}
+use Rattle.rws_commands.specs.declared.command.Body.TheVariants.{Run}
+use Rattle.rws_commands.specs.declared.command.Command.{Command}
+use Rattle.rws_commands.specs.declared.command.Execution.{Execution}
+use Rattle.rws_commands.specs.declared.judged.Judged.TheVariants.{Serves}
+use Rattle.rws_commands.specs.declared.request.Request.TheVariants.{Execute}
+use Rattle.rws_commands.specs.Requests.{request_of}
+use Rattle.rws_commands.specs.declared.history.HistoryEntry.{HistoryEntry}
+use Rattle.rws_commands.specs.declared.history.PreparedAs.{PreparedAs}
+use Rattle.rws_commands.specs.Statements.{next_handle, has_serial}
+use Rattle.rws_record.specs.Item.{Ending, Item, Purpose, Recording}
+use Rattle.rws_record.specs.Item.Item.{Comes, LinkBytes, Routed, Takes, Puts}
 use Rattle.rws_record.specs.Item.Purpose.{Asks, Plays}
 use Rattle.rws_record.specs.Item.Put.{Routes, Sends, Tells}
 use Rattle.rws_record.specs.Item.Tell.{Passes}
-use Rattle.rws_record.specs.Values.{accepted, asking, class_of_command, cursor, kept_on, links, pinned, server_of, told, transaction}
+use Rattle.rws_commands.specs.Commands.{class_of_command}
+use Rattle.rws_record.specs.Values.{asked_on, named_in, named_on, asking, cursor, kept_on, links, pinned, sent_for, server_of, statements, told, transaction}
 use Rattle.rws_record.specs.Log.{log, total}
 use Rattle.rws_record.specs.Rules.{next}
 use Rattle.rws_record.specs.Record.{IsRecord}
 use Rattle.rws_record.specs.Run.{Entry, IsRun, next_entry, record_of}
 use Rattle.rws_laws.specs.Causes.{AreCaused, IsAt, IsBarred, IsHidden, found_last}
+use Rattle.rws_laws.specs.Client.{Took}
 use Rattle.rws_laws.specs.Servers.{Lost}
 use Rattle.rws_laws.specs.Answers.{IsAnswered}
-use Rattle.rws_laws.specs.History.{set_on}
+use Rattle.rws_laws.specs.History.{Rises, below_serial, set_on, standing}
 
 -- In a legal record all that was read, told, opened, sent, dropped and closed has its cause.
 abbrev pub Causes : Type 0
@@ -43,29 +60,42 @@ HeardBytes (_ ∷ past) = HeardBytes past
 -- for the status bit 0x4000 that goes with the session's state.
 abbrev pub WholeReplies : Type 0
 WholeReplies =
-    (config : Config) (past : List Item) (number link : ℕ) (command : Command) (payload : Payload) (outcome : Outcome) (recording : Recording)
-    → IsRecord config (Puts (Tells number (Passes link command payload (Some outcome) recording)) ∷ past)
+    (config : Config) (past : List Item) (number link : ℕ) (command : Command) (payload : Payload) (ending : Ending) (recording : Recording)
+    → IsRecord config (Puts (Tells number (Passes link command payload (Some ending) recording)) ∷ past)
     → HeardBytes past
-    → (seen : Outcome) × IsReply command.kind (told past ++ payload ∷ []) seen × (without_state seen ≡ without_state outcome)
+    → (seen : Outcome) × IsReply command.kind (told past ++ payload ∷ []) seen × (without_state seen ≡ without_state ending.outcome)
 
--- Where a client's command goes on a link, the session's history has been set there, whole and in order. In a session that isn't kept on
--- a link, that is all that has set it, on whichever of its links.
+-- Where a client's command goes on a link, the session's history has been set there, whole and in order: what has set the session there, but
+-- for what has left the history, is the history. In a session that isn't kept on a link, that is all that has set it and stands, on whichever
+-- of its links.
 abbrev pub SetsBeforeItAsks : Type 0
 SetsBeforeItAsks =
-    (config : Config) (past : List Item) (link : ℕ) (command : Command) → IsRecord config (Puts (Sends link (Asks command)) ∷ past)
-    → (set_on link past ≡ accepted past) × (cursor link past ≡ length (accepted past))
+    (config : Config) (past : List Item) (link : ℕ) (command : Command) (id : Option ℕ)
+    → IsRecord config (Puts (Sends link (Asks command id)) ∷ past)
+    → standing (statements config past).history (set_on config link past) ≡ (statements config past).history
 
--- In a legal record what has set the session on a link is a front of the session's history.
+-- In a legal record the serials of what has set the session on a link rise, below the link's cursor; and those entries of the history that are
+-- below the cursor are exactly those that have set it there and stand.
 abbrev pub SetsInOrder : Type 0
 SetsInOrder =
     (config : Config) (past : List Item) (link : ℕ) → IsRecord config past
-    → (others : List Command) × (accepted past ≡ set_on link past ++ others) × (cursor link past ≡ length (set_on link past))
+    → Rises 0 (cursor link past) (set_on config link past)
+    × (below_serial (cursor link past) (statements config past).history
+    ≡ standing (statements config past).history (set_on config link past))
 
--- An entry that is played on a link is the one behind that front.
+-- What has set the session on a link and has left the history is a prepare.
+abbrev pub OnlyPreparesLeave : Type 0
+OnlyPreparesLeave =
+    (config : Config) (past : List Item) (link : ℕ) (entry : HistoryEntry) → IsRecord config past
+    → Contains (set_on config link past) entry → has_serial entry.serial (statements config past).history ≡ false
+    → (statement : PreparedAs) × (entry.statement ≡ Some statement)
+
+-- An entry that is played on a link is the first of the history behind those that have set the session there and stand.
 abbrev pub PlaysInOrder : Type 0
 PlaysInOrder =
-    (config : Config) (past : List Item) (link : ℕ) (command : Command) → IsRecord config (Puts (Sends link (Plays command)) ∷ past)
-    → (others : List Command) × (accepted past ≡ set_on link past ++ command ∷ others)
+    (config : Config) (past : List Item) (link : ℕ) (entry : HistoryEntry) → IsRecord config (Puts (Sends link (Plays entry)) ∷ past)
+    → (others : List HistoryEntry)
+    × ((statements config past).history ≡ standing (statements config past).history (set_on config link past) ++ entry ∷ others)
 
 -- at some place a link was lost to which a command had been sent that may have changed something, and the client had nothing of its
 -- reply
@@ -101,14 +131,15 @@ OneLinkEach =
 -- settings have an account, so that each session has a login for its links.
 abbrev pub GoesWhereFound : Type 0
 GoesWhereFound =
-    (config : Config) (past : List Item) (link : ℕ) (command : Command) → config.accounts ≢ []
-    → IsRecord config (Puts (Sends link (Asks command)) ∷ past) → pinned config past ≡ None
+    (config : Config) (past : List Item) (link : ℕ) (command : Command) (id : Option ℕ) → config.accounts ≢ []
+    → IsRecord config (Puts (Sends link (Asks command id)) ∷ past) → pinned config past ≡ None
     → (found : Target) × (found_last past ≡ Some found) × IsAt (server_of link past) found
 
 -- While a transaction is open, and while the session is kept on a link, the client's commands go on one link.
 abbrev pub StaysOnItsLink : Type 0
 StaysOnItsLink =
-    (config : Config) (past : List Item) (link there : ℕ) (command : Command) → IsRecord config (Puts (Sends link (Asks command)) ∷ past)
+    (config : Config) (past : List Item) (link there : ℕ) (command : Command) (id : Option ℕ)
+    → IsRecord config (Puts (Sends link (Asks command id)) ∷ past)
     → ((transaction config past).link ≡ Some there) ⊎ (kept_on past ≡ Some there) → link ≡ there
 
 -- what the session's last route found
@@ -139,5 +170,39 @@ CountsItsLog =
 -- A command that a read-only transaction doesn't take goes to no server while one is open.
 abbrev pub NoChangeInReadOnly : Type 0
 NoChangeInReadOnly =
-    (config : Config) (past : List Item) (link : ℕ) (command : Command) → IsRecord config (Puts (Sends link (Asks command)) ∷ past)
-    → (transaction config past).state.opened ≡ ReadOnly → ¬ IsBarred config past (class_of_command command)
+    (config : Config) (past : List Item) (link : ℕ) (command : Command) (id : Option ℕ)
+    → IsRecord config (Puts (Sends link (Asks command id)) ∷ past) → (transaction config past).state.opened ≡ ReadOnly → ¬ IsBarred config past (class_of_command command)
+
+-- at some place an execute was taken up, whose plain form, by the statements as they stood, was this
+pub data TookUp (config : Config) (command : Command) (plain : Plain) : List Item → Type 0 where
+  here : {past : List Item} {payload : List ℕ} → Took config payload command.number (Takes (Serves command) command.number ∷ past)
+      → request_of payload ≡ Execute → execute_of (statements config past).table payload ≡ Ok plain
+      → TookUp config command plain (Takes (Serves command) command.number ∷ past)
+  before : {item : Item} {past : List Item} → TookUp config command plain past → TookUp config command plain (item ∷ past)
+
+-- What goes on a link for an execute is the plain form that it had where it was taken up, under the id that the link's server has for its
+-- statement: long data first, then the execute with the types of its parameters. So it is whichever link it goes on, and whenever.
+abbrev pub ExecutesKeepTheirForm : Type 0
+ExecutesKeepTheirForm =
+    (config : Config) (past : List Item) (link : ℕ) (command : Command) (id : Option ℕ) (execution : Execution)
+    → IsRecord config (Puts (Sends link (Asks command id)) ∷ past) → command.body ≡ Run execution
+    → (own : ℕ) × (plain : Plain) × (id ≡ Some own) × (sent_for (Asks command id) ≡ spelled own plain) × TookUp config command plain past
+
+-- at some place the link's server gave this id to the statement that the client knows by this number: in the reply to the prepare by which the
+-- statement came, or in that to the entry that prepares it
+pub data GaveId (config : Config) (link number id : ℕ) : List Item → Type 0 where
+  led : {past : List Item} {told : ℕ} {command : Command} {payload : Payload} {ending : Ending} {recording : Recording} (ok : PrepareOk)
+      → ending.named ≡ Some ok → ok.id ≡ id → next_handle (statements config past) ≡ number
+      → GaveId config link number id (Puts (Tells told (Passes link command payload (Some ending) recording)) ∷ past)
+  played : {past : List Item} {payload : Payload} {role : Role} {status next : ℕ} {behind : Bool} (entry : HistoryEntry) (how : PreparedAs) (ok : PrepareOk)
+      → asked_on link past ≡ Some (Plays entry) → entry.statement ≡ Some how → how.number ≡ number
+      → named_in role payload (named_on link past) ≡ Some ok → ok.id ≡ id
+      → GaveId config link number id (Comes link (steps.Part payload role (Ends (Done status)) next behind) ∷ past)
+  since : {item : Item} {past : List Item} → GaveId config link number id past → GaveId config link number id (item ∷ past)
+
+-- The id under which an execute goes on a link is one that the link's server gave to its statement.
+abbrev pub IdsAreOfTheLink : Type 0
+IdsAreOfTheLink =
+    (config : Config) (past : List Item) (link id : ℕ) (command : Command) (execution : Execution)
+    → IsRecord config (Puts (Sends link (Asks command (Some id))) ∷ past) → command.body ≡ Run execution
+    → GaveId config link (number_in execution.commands) id past

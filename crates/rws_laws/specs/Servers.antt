@@ -30,12 +30,14 @@ use Rattle.rws_link.specs.declared.step.LinkStep.TheVariants as steps
 use Rattle.rws_link.specs.Handshake.{due, is_served, native_plugin, proof_over, response_of}
 use Rattle.rws_link.specs.Stepping.{Exchange, LogsIn, Rests}
 use Rattle.rws_config.specs.declared.limits.TheConstants.{SERVER_PAYLOAD}
-use Rattle.rws_record.specs.declared.command.Command.{Command}
+use Rattle.rws_msgs.specs.declared.prepare_ok.PrepareOk.{PrepareOk}
+use Rattle.rws_commands.specs.declared.history.HistoryEntry.{HistoryEntry}
+use Rattle.rws_commands.specs.declared.history.PreparedAs.{PreparedAs}
 use Rattle.rws_record.specs.Item.{Item}
 use Rattle.rws_record.specs.Item.Item.{Began, LinkReady, LinkBytes, LinkLost, Comes, Puts}
 use Rattle.rws_record.specs.Item.Put.{Sends, Drops}
 use Rattle.rws_record.specs.Item.Purpose.{Prepares, Plays}
-use Rattle.rws_record.specs.Values.{asked_on, linked, exchange, link_held}
+use Rattle.rws_record.specs.Values.{asked_on, linked, named_on, exchange, link_held}
 
 -- Its payloads
 
@@ -175,13 +177,20 @@ pub record IsUnprepared (link code : ℕ) (past : List Item) : Type 0 where
   pub asked : asked_on link past ≡ Some Prepares
   pub failed : IsReply QueryReply (came_on link past) (Failed code)
 
--- an entry of the history was answered by an error, whole now
+-- the reply to an entry of the history differs from the one that the client was answered by: it is an error; or it tells of a statement
+-- with another number of columns or parameters
+pub data IsOther (entry : HistoryEntry) (payloads : List Payload) (named : Option PrepareOk) : Type 0 where
+  fails : (code : ℕ) → IsReply entry.kind payloads (Failed code) → IsOther entry payloads named
+  counts : (how : PreparedAs) (ok : PrepareOk) (status : ℕ) → entry.statement ≡ Some how → named ≡ Some ok
+      → IsReply entry.kind payloads (Done status) → ¬ ((how.columns ≡ ok.columns) × (how.parameters ≡ ok.parameters))
+      → IsOther entry payloads named
+
+-- an entry of the history was answered otherwise, whole now
 pub record Differs (link : ℕ) (past : List Item) : Type 0 where
   pub came : replied past ≡ Some link
-  pub command : Command
-  pub asked : asked_on link past ≡ Some (Plays command)
-  pub code : ℕ
-  pub failed : IsReply command.kind (came_on link past) (Failed code)
+  pub entry : HistoryEntry
+  pub asked : asked_on link past ≡ Some (Plays entry)
+  pub other : IsOther entry (came_on link past) (named_on link past)
 
 -- The link was prepared at some place: its session began with it, it counted as ready, or its server's whole reply to the
 -- preamble came, which is no error.

@@ -1,5 +1,5 @@
 //! Laws about a session's record. Each function does nothing; its contract is the law, which is proved with it.
-ghost use Rattle.rws_laws.specs.Laws.{Answered, AnsweredInRuns, Causes, CausesInRuns, CountsItsLog, GoesWhereFound, NoChangeInReadOnly, NothingBehindHidden, OneLinkEach, PinnedTakesNoRoute, PlaysInOrder, SetsBeforeItAsks, SetsInOrder, StaysOnItsLink, WholeReplies, WritesAtPrimary};
+ghost use Rattle.rws_laws.specs.Laws.{Answered, AnsweredInRuns, Causes, CausesInRuns, CountsItsLog, ExecutesKeepTheirForm, GoesWhereFound, IdsAreOfTheLink, NoChangeInReadOnly, NothingBehindHidden, OneLinkEach, OnlyPreparesLeave, PinnedTakesNoRoute, PlaysInOrder, SetsBeforeItAsks, SetsInOrder, StaysOnItsLink, WholeReplies, WritesAtPrimary};
 
 /// All that a session read, told, opened, sent, dropped and closed has its cause in what stands below it: in the bytes of the
 /// client and of its links.
@@ -21,10 +21,12 @@ pub fn has_answered()
     ensures runs { AnsweredInRuns }
 {}
 
-/// Before a client's command goes on a link, the session's history was set there, whole and in order.
+/// Before a client's command goes on a link, the session's history was set there, whole and in order; what has set the session there beside
+/// it are prepares of statements that have left.
 pub fn links_are_set_alike()
     ensures asked { SetsBeforeItAsks }
     ensures front { SetsInOrder }
+    ensures left { OnlyPreparesLeave }
     ensures played { PlaysInOrder }
 {}
 
@@ -63,4 +65,11 @@ pub fn counts_its_log()
 /// Where a link is lost, and with it what became of a command that may have changed something, the session sends nothing more.
 pub fn nothing_behind_hidden()
     ensures { NothingBehindHidden }
+{}
+
+/// What goes on a link for an execute of a prepared statement is what the client asked to be run, under an id that the link's server
+/// gave to the statement.
+pub fn executes_keep_their_form()
+    ensures form { ExecutesKeepTheirForm }
+    ensures own { IdsAreOfTheLink }
 {}

@@ -4,7 +4,7 @@ use Rattle.std.specs.Prelude.{◌==◌, if◌then◌else◌}
 use Rattle.rws_config.specs.declared.config.Config.{Config}
 use Rattle.rws_record.specs.Item.{Item}
 use Rattle.rws_record.specs.Item.Item.{Accepted, TurnsAway, Began, ClientBytes, LinkReady, LinkBytes, ClientGone, LinkLost, Ticks, Routed, Comes, Connects, Takes, Floods, Puts, Starves}
-use Rattle.rws_record.specs.Item.Put.{Hands, Tells, Routes, Opens, LogsInto, Sends, Drops, Closes}
+use Rattle.rws_record.specs.Item.Put.{Hands, Tells, Routes, Opens, LogsInto, Sends, Forgets, Drops, Closes}
 use Rattle.rws_record.specs.Values.{links, contains, without}
 use Rattle.rws_record.specs.Record.{IsRecord}
 use Rattle.rws_record.specs.Record.IsRecord.{begins, steps, answers, hears, starves}
@@ -73,6 +73,7 @@ leaves past (Puts Routes) = all refl
 leaves past (Puts (Opens link server login)) = and_one link refl
 leaves past (Puts (LogsInto link packets)) = all refl
 leaves past (Puts (Sends link purpose)) = all refl
+leaves past (Puts (Forgets link id)) = all refl
 leaves past (Puts (Drops link cause)) = but_one link refl
 leaves past (Puts (Closes reason)) = all refl
 

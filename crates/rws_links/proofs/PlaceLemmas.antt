@@ -8,14 +8,15 @@ use Rattle.std.proofs.lemmas.Iterator.Adapters.{position_from-zero}
 use Rattle.std.proofs.lemmas.Result.{IfOk-weaker}
 use Rattle.std.proofs.Math.Seq.{map-set_same}
 use Rattle.rws_reply.specs.declared.kind.Kind.{Kind}
-use Rattle.rws_link.specs.Stepping.{LinkState, LogsIn, Rests, Awaits, IsLost, fed, is_new, readied, sent}
+use Rattle.rws_link.specs.Stepping.{LinkState, LogsIn, Rests, Awaits, IsLost, fed, is_new, readied}
 use Rattle.rws_link.specs.Linking.{IsReady, Linking, kept}
 use Rattle.rws_record.specs.Item.{Item, Purpose}
 use Rattle.rws_record.specs.Item.Item.{LinkBytes, LinkReady, Puts}
 use Rattle.rws_record.specs.Item.Put.{Sends}
-use Rattle.rws_record.specs.Values.{contains, is_up, kind_of, linked, sent_for}
+use Rattle.rws_record.specs.Values.{contains, is_up, kind_of, linked, sent_all, sent_for}
 use Rattle.rws_record.specs.Rules.{is_ready, is_same}
 use Rattle.rws_links.specs.declared.numbered.Asked.{Asked}
+use Rattle.rws_links.specs.declared.numbered.Asked.TheVariants.{Command as ACommand}
 use Rattle.rws_links.specs.declared.numbered.NumberedLink.{NumberedLink}
 use Rattle.rws_links.specs.Links.{asked_for, link_of, number_of}
 use Rattle.rws_links.specs.Table.{AreDistinct, GoesOut, IsSending, MayBeSent, ReadiesOn, SendsOn, has_number, needs_prepared}
@@ -189,10 +190,10 @@ sent_as past number links items at purpose link new there true goes =
     let ready : true ≡ (is_same (needs_prepared asked) (is_up number past) && is_ready (linked number past)) =
     tests past link number asked true there.is (λ e. goes.0, λ may. refl) in
     let rests : linked number past ≡ Rests = rests_by (is_same (needs_prepared asked) (is_up number past)) (linked number past) ready in
-    let state : LinkState = sent (sent_for purpose) (Some (kind_of purpose)) in
-    let whole : new ≡ record (link_of past number) { asked = Some asked; link = kept state } =
-    goes.1 ∙ ap (λ (l : NumberedLink). record l { asked = Some asked; link = new.link }) there.is
-    ∙ ap (λ (k : Linking). record (link_of past number) { asked = Some asked; link = k })
+    let state : LinkState = sent_all (sent_for purpose) (kind_of purpose) in
+    let whole : new ≡ record (link_of past number) { asked = Some asked; named = None; link = kept state } =
+    goes.1 ∙ ap (λ (l : NumberedLink). record l { asked = Some asked; named = None; link = new.link }) there.is
+    ∙ ap (λ (k : Linking). record (link_of past number) { asked = Some asked; named = None; link = k })
     (goes.2 (ap (λ (l : NumberedLink). l.link) there.is ∙ ap kept rests)) in (
       rw there.has (sym ready),
       there.changes (Puts (Sends number purpose)) (sending_about past number purpose) new (rw (itself number) whole),
@@ -203,17 +204,35 @@ sent_as past number links items at purpose link new there false goes =
     tests past link number asked false there.is (λ e. absurd cc, λ may. absurd (goes.0 may)) in
     (rw there.has (sym ready), ap (set items at) goes.1 ∙ there.stays)
 
-pub sent_at : (past : List Item) (number : ℕ) (links : List ℕ) (items : List NumberedLink) (at : ℕ) (asked : Asked) (payload : List ℕ) (kind : Kind)
-    (purpose : Purpose) (link new : NumberedLink) → IsSending asked payload kind purpose → At past number links items at link
-    → {E : Type 0} (result : Result Bool E) → IfOk result (λ went. GoesOut asked payload kind link went new)
+pub sent_at : (past : List Item) (number : ℕ) (links : List ℕ) (items : List NumberedLink) (at : ℕ) (asked : Asked) (payloads : List (List ℕ)) (kind : Kind)
+    (purpose : Purpose) (link new : NumberedLink) → IsSending asked payloads kind purpose → At past number links items at link
+    → {E : Type 0} (result : Result Bool E) → IfOk result (λ went. GoesOut asked payloads kind link went new)
     → IfOk result (λ went. SendsOn number purpose past links went (set items at new))
-sent_at past number links items at asked payload kind purpose link new sending there result goes =
-    IfOk-weaker result (λ went. GoesOut asked payload kind link went new) (λ went. SendsOn number purpose past links went (set items at new))
+sent_at past number links items at asked payloads kind purpose link new sending there result goes =
+    IfOk-weaker result (λ went. GoesOut asked payloads kind link went new) (λ went. SendsOn number purpose past links went (set items at new))
     (λ went out. sent_as past number links items at purpose link new there went (rw (sending.0, sending.1, sending.2) out)) goes
 
 pub sent_nowhere : (past : List Item) (number : ℕ) (links : List ℕ) (purpose : Purpose) (table : List NumberedLink)
     → table ≡ map (link_of past) links → position (has_number number) table ≡ None → SendsOn number purpose past links false table
 sent_nowhere past number links purpose table are none = (rw (found_none past number links table are none) refl, are)
+
+-- A command without a reply goes on a link
+
+-- the table stays as it is
+abbrev pub Tells : ℕ → List Item → List ℕ → Bool → List NumberedLink → List NumberedLink → Type 0
+Tells number past links went old new =
+    (went ≡ (contains number links && (is_same true (is_up number past) && is_ready (linked number past)))) × (new ≡ old)
+
+pub told_at : (past : List Item) (number : ℕ) (links : List ℕ) (items table : List NumberedLink) (at : ℕ) (link : NumberedLink)
+    → At past number links items at link → {E : Type 0} (result : Result Bool E)
+    → IfOk result (λ went. (went ≡ true) ↔ MayBeSent ACommand link) → IfOk result (λ went. Tells number past links went table table)
+told_at past number links items table at link there result free =
+    IfOk-weaker result (λ went. (went ≡ true) ↔ MayBeSent ACommand link) (λ went. Tells number past links went table table)
+    (λ went may. (rw there.has (tests past link number ACommand went there.is may), refl)) free
+
+pub told_nowhere : (past : List Item) (number : ℕ) (links : List ℕ) (table : List NumberedLink) → table ≡ map (link_of past) links
+    → position (has_number number) table ≡ None → Tells number past links false table table
+told_nowhere past number links table are none = (rw (found_none past number links table are none) refl, refl)
 
 -- A link counts as ready
 

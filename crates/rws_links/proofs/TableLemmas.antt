@@ -5,21 +5,23 @@ use Rattle.std.specs.Prelude.{◌==◌, ◌||◌, ◌&&◌, is_some, if◌then�
 use Rattle.std.specs.List.{list_any}
 use Rattle.std.specs.Option.{option_map}
 use Rattle.rws_native.specs.declared.login.Login.{Login}
-use Rattle.rws_reply.specs.declared.kind.Outcome.{Outcome}
 use Rattle.rws_reply.specs.declared.kind.Outcome.TheVariants.{Done, Failed}
 use Rattle.rws_reply.specs.declared.kind.Progress.TheVariants.{More, Whole as Ends}
 use Rattle.rws_link.specs.declared.step.LinkStep.{LinkStep}
 use Rattle.rws_link.specs.declared.step.LinkStep.TheVariants as steps
 use Rattle.rws_link.specs.Stepping.{LinkState, LogsIn, Rests, Awaits, IsLost, step}
 use Rattle.rws_link.specs.Linking.{Linking, Takes, is_awaiting, kept}
-use Rattle.rws_record.specs.declared.command.Command.{Command}
-use Rattle.rws_record.specs.Item.{Item, Purpose}
+use Rattle.rws_commands.specs.declared.command.Command.{Command}
+use Rattle.rws_msgs.specs.declared.prepare_ok.PrepareOk.{PrepareOk}
+use Rattle.rws_commands.specs.Statements.{is_otherwise}
+use Rattle.rws_routing.specs.Routings.{with_server}
+use Rattle.rws_record.specs.Item.{Ending, Item, Purpose}
 use Rattle.rws_record.specs.Item.Item.{LinkBytes, LinkReady, Comes, Puts}
 use Rattle.rws_record.specs.Item.Put.{Opens, Sends, Tells}
 use Rattle.rws_record.specs.Item.Purpose.{Prepares, Asks, Plays}
 use Rattle.rws_record.specs.Item.Recording.{Accepts}
 use Rattle.rws_record.specs.Item.Tell.{Passes}
-use Rattle.rws_record.specs.Values.{asked_on, awaited, banned_by, contains, cursor as played_on, exchange, is_up, linked, played_by, prepared_by, server_of, without}
+use Rattle.rws_record.specs.Values.{asked_on, awaited, banned_by, banned_if, contains, cursor as played_on, exchange, is_up, linked, named_by, named_in, named_on, played_by, prepared_by, serials, server_of, without}
 use Rattle.rws_record.specs.Rules.{coming}
 use Rattle.rws_record.proofs.LinkedLemmas.{idle_stays}
 use Rattle.rws_links.specs.declared.coming.Coming.{Coming}
@@ -144,8 +146,8 @@ prepares_is steps.LoggedIn asked before = refl
 prepares_is (steps.Part payload role More next behind) asked before = refl
 prepares_is (steps.Part payload role (Ends (Done status)) next behind) None before = refl
 prepares_is (steps.Part payload role (Ends (Done status)) next behind) (Some Prepares) before = refl
-prepares_is (steps.Part payload role (Ends (Done status)) next behind) (Some (Asks command)) before = refl
-prepares_is (steps.Part payload role (Ends (Done status)) next behind) (Some (Plays command)) before = refl
+prepares_is (steps.Part payload role (Ends (Done status)) next behind) (Some (Asks command id)) before = refl
+prepares_is (steps.Part payload role (Ends (Done status)) next behind) (Some (Plays entry)) before = refl
 prepares_is (steps.Part payload role (Ends (Failed code)) next behind) asked before = refl
 prepares_is (steps.Lost cause) asked before = refl
 
@@ -157,46 +159,62 @@ plays_is steps.LoggedIn asked before = refl
 plays_is (steps.Part payload role More next behind) asked before = refl
 plays_is (steps.Part payload role (Ends (Done status)) next behind) None before = refl
 plays_is (steps.Part payload role (Ends (Done status)) next behind) (Some Prepares) before = refl
-plays_is (steps.Part payload role (Ends (Done status)) next behind) (Some (Asks command)) before = refl
-plays_is (steps.Part payload role (Ends (Done status)) next behind) (Some (Plays command)) before = refl
+plays_is (steps.Part payload role (Ends (Done status)) next behind) (Some (Asks command id)) before = refl
+plays_is (steps.Part payload role (Ends (Done status)) next behind) (Some (Plays entry)) before = refl
 plays_is (steps.Part payload role (Ends (Failed code)) next behind) asked before = refl
 plays_is (steps.Lost cause) asked before = refl
 
 -- its server is banned
-pub bans_is : (said : LinkStep) (asked : Option Purpose) (server before : ℕ)
-    → bans said (option_map asked_for asked) server before ≡ banned_by said asked server before
-bans_is steps.Idle asked server before = refl
-bans_is (steps.Send bytes) asked server before = refl
-bans_is steps.LoggedIn asked server before = refl
-bans_is (steps.Part payload role More next behind) asked server before = refl
-bans_is (steps.Part payload role (Ends (Done status)) next behind) asked server before = refl
-bans_is (steps.Part payload role (Ends (Failed code)) next behind) None server before = refl
-bans_is (steps.Part payload role (Ends (Failed code)) next behind) (Some Prepares) server before = refl
-bans_is (steps.Part payload role (Ends (Failed code)) next behind) (Some (Asks command)) server before = refl
-bans_is (steps.Part payload role (Ends (Failed code)) next behind) (Some (Plays command)) server before = refl
-bans_is (steps.Lost cause) asked server before = refl
+pub bans_is : (said : LinkStep) (asked : Option Purpose) (named : Option PrepareOk) (server before : ℕ)
+    → bans said (option_map asked_for asked) (named_by said named) server before ≡ banned_by said asked named server before
+bans_is steps.Idle asked named server before = refl
+bans_is (steps.Send bytes) asked named server before = refl
+bans_is steps.LoggedIn asked named server before = refl
+bans_is (steps.Part payload role More next behind) asked named server before = refl
+bans_is (steps.Part payload role (Ends (Done status)) next behind) None named server before = refl
+bans_is (steps.Part payload role (Ends (Done status)) next behind) (Some Prepares) named server before = refl
+bans_is (steps.Part payload role (Ends (Done status)) next behind) (Some (Asks command id)) named server before = refl
+bans_is (steps.Part payload role (Ends (Done status)) next behind) (Some (Plays entry)) named server before =
+    by_test (is_otherwise entry.statement (named_in role payload named))
+  where
+    by_test : (test : Bool) → (if test then with_server server before else before) ≡ banned_if test server before
+    by_test true = refl
+    by_test false = refl
+bans_is (steps.Part payload role (Ends (Failed code)) next behind) None named server before = refl
+bans_is (steps.Part payload role (Ends (Failed code)) next behind) (Some Prepares) named server before = refl
+bans_is (steps.Part payload role (Ends (Failed code)) next behind) (Some (Asks command id)) named server before = refl
+bans_is (steps.Part payload role (Ends (Failed code)) next behind) (Some (Plays entry)) named server before = refl
+bans_is (steps.Lost cause) asked named server before = refl
 
 -- a link led an entry
-pub led_is : (past : List Item) (number from : ℕ) (command : Command) (payload : List ℕ) (outcome : Outcome) (links : List ℕ)
-    → map (led from) (map (link_of past) links) ≡ map (link_of (Puts (Tells number (Passes from command payload (Some outcome) Accepts)) ∷ past)) links
-led_is past number from command payload outcome [] = refl
-led_is past number from command payload outcome (link ∷ others) =
-    both (by_test (link == from) refl) (led_is past number from command payload outcome others)
+pub led_is : (past : List Item) (number from : ℕ) (command : Command) (payload : List ℕ) (ending : Ending) (links : List ℕ)
+    → map (led from (serials past)) (map (link_of past) links)
+    ≡ map (link_of (Puts (Tells number (Passes from command payload (Some ending) Accepts)) ∷ past)) links
+led_is past number from command payload ending [] = refl
+led_is past number from command payload ending (link ∷ others) =
+    both (by_test (link == from) refl) (led_is past number from command payload ending others)
   where
-    by_test : (test : Bool) → (link == from) ≡ test
-        → led from (link_of past link) ≡ link_of (Puts (Tells number (Passes from command payload (Some outcome) Accepts)) ∷ past) link
+    by_test : (test : Bool) → (link == from) ≡ test → led from (serials past) (link_of past link)
+        ≡ link_of (Puts (Tells number (Passes from command payload (Some ending) Accepts)) ∷ past) link
     by_test true t = let same : (from == link) ≡ true = eq-eqb from link (sym (eqb-true link from t)) in rw (t, same) refl
     by_test false t = rw (t, apart link from t) refl
 
-whole_by : (l : NumberedLink) {up up' : Bool} {cursor cursor' : ℕ} {link link' : Linking} → up ≡ up' → cursor ≡ cursor' → link ≡ link'
-    → record l { is_up = up; cursor = cursor; link = link } ≡ record l { is_up = up'; cursor = cursor'; link = link' }
+whole_by : (l : NumberedLink) {up up' : Bool} {named : Option PrepareOk} {cursor cursor' : ℕ} {link link' : Linking} → up ≡ up'
+    → cursor ≡ cursor' → link ≡ link'
+    → record l { is_up = up; named = named; cursor = cursor; link = link }
+    ≡ record l { is_up = up'; named = named; cursor = cursor'; link = link' }
 whole_by l u c k = cc
 
 -- the first link says something
 pub read_here : (past : List Item) (numbers : List ℕ) (link new : NumberedLink) (others : List NumberedLink) (said : LinkStep) (found : Coming)
     (after : Linking) → link ∷ others ≡ map (link_of past) numbers → AreDistinct numbers → (said ≡ steps.Idle → ⊥)
-    → found ≡ record { link = link.number; server = link.server; said = said; asked = link.asked }
-    → new ≡ record link { is_up = prepares said link.asked link.is_up; cursor = plays said link.asked link.cursor; link = after }
+    → found ≡ record { link = link.number; server = link.server; said = said; asked = link.asked; named = named_by said link.named }
+    → new ≡ record link {
+      is_up = prepares said link.asked link.is_up;
+      named = named_by said link.named;
+      cursor = plays said link.asked link.cursor;
+      link = after;
+    }
     → ((state : LinkState) → link.link ≡ kept state → Takes (step state) said after)
     → ReadsFirst past numbers (Some found) (new ∷ others)
 read_here past numbers link new others said found after are distinct not_idle found_is new_is takes =
@@ -204,17 +222,30 @@ read_here past numbers link new others said found after are distinct not_idle fo
     let t = takes (linked s.first past) (ap (λ (l : NumberedLink). l.link) s.is) in
     let whole : new ≡ record (link_of past s.first) {
       is_up = prepared_by said (asked_on s.first past) (is_up s.first past);
+      named = named_by said (named_on s.first past);
       cursor = played_by said (asked_on s.first past) (played_on s.first past);
       link = kept (step (linked s.first past)).after;
     } =
-    new_is ∙ ap (λ (l : NumberedLink). record l { is_up = prepares said l.asked l.is_up; cursor = plays said l.asked l.cursor; link = after }) s.is
+    new_is ∙ ap (λ (l : NumberedLink). record l {
+      is_up = prepares said l.asked l.is_up;
+      named = named_by said l.named;
+      cursor = plays said l.asked l.cursor;
+      link = after;
+    }) s.is
     ∙ whole_by (link_of past s.first) (prepares_is said (asked_on s.first past) (is_up s.first past))
     (plays_is said (asked_on s.first past) (played_on s.first past)) t.1 in
-    let is : found ≡ record { link = s.first; server = server_of s.first past; said = said; asked = option_map asked_for (asked_on s.first past) } =
-    found_is ∙ ap (λ (l : NumberedLink). record { link = l.number; server = l.server; said = said; asked = l.asked }) s.is in
+    let is : found ≡ record {
+      link = s.first;
+      server = server_of s.first past;
+      said = said;
+      asked = option_map asked_for (asked_on s.first past);
+      named = named_by said (named_on s.first past);
+    } =
+    found_is ∙ ap (λ (l : NumberedLink). record { link = l.number; server = l.server; said = said; asked = l.asked; named = named_by said l.named }) s.is in
     rw s.are (subst (λ (f : Coming). ReadsFirst past (s.first ∷ s.rest) (Some f) (new ∷ others)) (sym is) (
       rw (← t.0) (rw (said_not_idle s.first said not_idle) refl),
       rw (itself s.first) refl,
+      refl,
       refl,
       refl,
       changes_first past (Comes s.first said) s.first (coming_about past s.first said) s.rest new others s.behind s.apart_all
@@ -249,8 +280,9 @@ read_behind past numbers link new others behind are distinct stays_so takes resu
           rw differ there.1,
           there.2,
           there.3,
+          there.4,
           changes_behind past (Comes found.link found.said) found.link (coming_about past found.link found.said) first rest new behind is differ
-              there.4,
+              there.5,
         )
 
 -- a link of this number is there

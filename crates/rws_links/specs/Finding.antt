@@ -1,10 +1,11 @@
 -- What is found in a table of links.
-use Rattle.std.specs.Prelude.{ℕ, nat_lt, Bool, true, false, ◌==◌, ◌&&◌, List, [], ◌∷◌, Option, Some, None, if◌then◌else◌}
+use Rattle.std.specs.Prelude.{ℕ, Bool, true, false, ◌==◌, ◌&&◌, List, [], ◌∷◌, Option, Some, None, if◌then◌else◌}
 use Rattle.rws_link.specs.Linking.{Linking, Ready, is_awaiting}
 use Rattle.rws_routing.specs.Routings.{is_at}
+use Rattle.rws_commands.specs.Statements.{is_behind}
 use Rattle.rws_links.specs.declared.finding.Due.{Due}
-use Rattle.rws_links.specs.declared.numbered.Asked.{Asked}
-use Rattle.rws_links.specs.declared.numbered.Asked.TheVariants.{Preamble, Entry as AnEntry, Command as ACommand}
+use Rattle.rws_links.specs.declared.finding.DueKind.{DueKind}
+use Rattle.rws_links.specs.declared.finding.DueKind.TheVariants.{Preamble, Entry as AnEntry, Command as ACommand}
 use Rattle.rws_links.specs.declared.numbered.NumberedLink.{NumberedLink}
 
 abbrev pub leads_to : ℕ → NumberedLink → Bool
@@ -26,21 +27,21 @@ is_open _ = false
 
 -- The preamble is due on an open link that isn't prepared; on one that is, the next entry of the history that it has to play, and
 -- where it has played all a command that waits for it.
-abbrev pub due_by : (is_open up plays goes : Bool) → Option Asked
+abbrev pub due_by : (is_open up plays goes : Bool) → Option DueKind
 due_by true false plays goes = Some Preamble
 due_by true true true goes = Some AnEntry
 due_by true true false true = Some ACommand
 due_by _ _ _ _ = None
 
--- `goes` is the link that a command waits for, and the history has so many entries
-abbrev pub due_on : (goes : Option ℕ) → (entries : ℕ) → NumberedLink → Option Asked
-due_on goes entries link = due_by (is_open link.link) link.is_up (nat_lt link.cursor entries) (is_at link.number goes)
+-- `goes` is the link that a command waits for, and `last` the serial of the history's last entry
+abbrev pub due_on : (goes last : Option ℕ) → NumberedLink → Option DueKind
+due_on goes last link = due_by (is_open link.link) link.is_up (is_behind last link.cursor) (is_at link.number goes)
 
-abbrev pub or_behind : Option Asked → (link entry : ℕ) → Option Due → Option Due
-or_behind (Some asked) link entry behind = Some (record { link = link; asked = asked; entry = entry })
+abbrev pub or_behind : Option DueKind → (link entry : ℕ) → Option Due → Option Due
+or_behind (Some what) link entry behind = Some (record { link = link; what = what; entry = entry })
 or_behind None link entry behind = behind
 
 -- the first link on which something is due
-abbrev pub first_due : (goes : Option ℕ) → (entries : ℕ) → List NumberedLink → Option Due
-first_due goes entries [] = None
-first_due goes entries (link ∷ others) = or_behind (due_on goes entries link) link.number link.cursor (first_due goes entries others)
+abbrev pub first_due : (goes last : Option ℕ) → List NumberedLink → Option Due
+first_due goes last [] = None
+first_due goes last (link ∷ others) = or_behind (due_on goes last link) link.number link.cursor (first_due goes last others)

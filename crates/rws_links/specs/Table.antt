@@ -1,5 +1,5 @@
 -- The links that a session has, as code keeps them.
-use Rattle.std.specs.Prelude.{◌≡◌, ℕ, ◌+◌, Bool, true, false, not, ◌==◌, ◌&&◌, List, [], ◌∷◌, filter, map, Option, Some, None, if◌then◌else◌}
+use Rattle.std.specs.Prelude.{◌≡◌, ℕ, ◌+◌, Bool, true, false, not, ◌==◌, ◌&&◌, ◌||◌, List, [], ◌∷◌, filter, map, Option, Some, None, if◌then◌else◌}
 use Rattle.std.specs.Option.{option_map}
 use Rattle.rws_reply.specs.declared.kind.Kind.{Kind}
 use Rattle.rws_reply.specs.declared.kind.Outcome.TheVariants.{Done, Failed}
@@ -7,12 +7,15 @@ use Rattle.rws_reply.specs.declared.kind.Progress.TheVariants.{Whole as Ends}
 use Rattle.rws_link.specs.declared.step.LinkStep.{LinkStep}
 use Rattle.rws_link.specs.declared.step.LinkStep.TheVariants as steps
 use Rattle.rws_link.specs.Linking.{IsReady, kept}
-use Rattle.rws_link.specs.Stepping.{Rests, is_new, sent}
+use Rattle.rws_link.specs.Stepping.{Rests, is_new}
 use Rattle.rws_routing.specs.Routings.{with_server}
 use Rattle.rws_record.specs.Item.{Item, Purpose}
 use Rattle.rws_record.specs.Item.Item.{Comes, LinkReady, Puts}
 use Rattle.rws_record.specs.Item.Put.{Sends}
-use Rattle.rws_record.specs.Values.{asked_on, contains, is_up, kind_of, linked, sent_for, server_of}
+use Rattle.rws_msgs.specs.declared.prepare_ok.PrepareOk.{PrepareOk}
+use Rattle.rws_commands.specs.declared.history.PreparedAs.{PreparedAs}
+use Rattle.rws_commands.specs.Statements.{is_otherwise}
+use Rattle.rws_record.specs.Values.{asked_on, contains, is_up, kind_of, linked, named_by, named_on, sent_all, sent_for, server_of}
 use Rattle.rws_record.specs.Rules.{due_arrival, is_ready, is_same}
 use Rattle.rws_links.specs.declared.numbered.Asked.{Asked}
 use Rattle.rws_links.specs.declared.numbered.Asked.TheVariants.{Preamble, Entry as AnEntry, Command as ACommand}
@@ -37,29 +40,30 @@ ReadsFirst past links None new = (due_arrival links past ≡ None) × (new ≡ m
 ReadsFirst past links (Some found) new =
     (due_arrival links past ≡ Some (Comes found.link found.said)) × (contains found.link links ≡ true)
     × (found.asked ≡ option_map asked_for (asked_on found.link past)) × (found.server ≡ server_of found.link past)
+    × (found.named ≡ named_by found.said (named_on found.link past))
     × (new ≡ map (link_of (Comes found.link found.said ∷ past)) links)
 
 -- Sending
 
 -- what is sent for a purpose
-abbrev pub IsSending : Asked → List ℕ → Kind → Purpose → Type 0
-IsSending asked payload kind purpose = (asked_for purpose ≡ asked) × (sent_for purpose ≡ payload) × (kind_of purpose ≡ kind)
+abbrev pub IsSending : Asked → List (List ℕ) → Kind → Purpose → Type 0
+IsSending asked payloads kind purpose = (asked_for purpose ≡ asked) × (sent_for purpose ≡ payloads) × (kind_of purpose ≡ kind)
 
 -- entries of the history and commands of the client go on links that are prepared
 abbrev pub needs_prepared : Asked → Bool
 needs_prepared Preamble = false
-needs_prepared AnEntry = true
+needs_prepared (AnEntry serial statement) = true
 needs_prepared ACommand = true
 
 abbrev pub MayBeSent : Asked → NumberedLink → Type 0
 MayBeSent asked link = (link.is_up ≡ needs_prepared asked) × IsReady link.link
 
--- something is sent on a link, or isn't
-abbrev pub GoesOut : Asked → List ℕ → Kind → (old : NumberedLink) → Bool → (new : NumberedLink) → Type 0
-GoesOut asked payload kind old true new =
-    MayBeSent asked old × (new ≡ record old { asked = Some asked; link = new.link })
-    × (old.link ≡ kept Rests → new.link ≡ kept (sent payload (Some kind)))
-GoesOut asked payload kind old false new = (MayBeSent asked old → ⊥) × (new ≡ old)
+-- something is sent on a link, or isn't: payloads of which the last is answered, by a reply that told of no statement yet
+abbrev pub GoesOut : Asked → List (List ℕ) → Kind → (old : NumberedLink) → Bool → (new : NumberedLink) → Type 0
+GoesOut asked payloads kind old true new =
+    MayBeSent asked old × (new ≡ record old { asked = Some asked; named = None; link = new.link })
+    × (old.link ≡ kept Rests → new.link ≡ kept (sent_all payloads kind))
+GoesOut asked payloads kind old false new = (MayBeSent asked old → ⊥) × (new ≡ old)
 
 -- Something is sent on a link of a record that is free for it, or isn't sent.
 abbrev pub can_go_on : ℕ → Purpose → List Item → List ℕ → Bool
@@ -93,21 +97,35 @@ is_preamble _ = false
 abbrev pub prepares : LinkStep → Option Asked → Bool → Bool
 prepares said asked before = if (is_whole said && is_preamble asked) then true else before
 
+-- a link that has played what it was asked has come so far, if that is an entry of the history
+abbrev pub behind_entry : Option Asked → ℕ → ℕ
+behind_entry (Some (AnEntry serial statement)) before = serial + 1
+behind_entry _ before = before
+
+-- with the whole reply to an entry, without an error, it has played that
+abbrev pub plays : LinkStep → Option Asked → ℕ → ℕ
+plays said asked before = if is_whole said then behind_entry asked before else before
+
 abbrev pub is_entry : Option Asked → Bool
-is_entry (Some AnEntry) = true
+is_entry (Some (AnEntry serial statement)) = true
 is_entry _ = false
 
--- with that to an entry of the history it has played one more
-abbrev pub plays : LinkStep → Option Asked → ℕ → ℕ
-plays said asked before = if (is_whole said && is_entry asked) then before + 1 else before
+-- how the statement was prepared first that an entry prepares
+abbrev pub statement_of : Option Asked → Option PreparedAs
+statement_of (Some (AnEntry serial statement)) = statement
+statement_of _ = None
 
--- a server that answers an entry by an error is one more of those that are banned
-abbrev pub bans : LinkStep → Option Asked → (server : ℕ) → ℕ → ℕ
-bans said asked server before = if (is_failed said && is_entry asked) then with_server server before else before
+-- an entry is answered otherwise than by the server that it was first sent to: by an error, or with other counts
+abbrev pub is_different : LinkStep → Option Asked → Option PrepareOk → Bool
+is_different said asked named = (is_failed said && is_entry asked) || (is_whole said && is_otherwise (statement_of asked) named)
 
--- the link of this number led an entry
-abbrev pub led : ℕ → NumberedLink → NumberedLink
-led number link = if link.number == number then record link { cursor = link.cursor + 1 } else link
+-- a server that does so is one more of those that are banned; `named` is the statement that its reply told of
+abbrev pub bans : LinkStep → Option Asked → (named : Option PrepareOk) → (server : ℕ) → ℕ → ℕ
+bans said asked named server before = if is_different said asked named then with_server server before else before
+
+-- the link of this number led the entry of this serial
+abbrev pub led : (number serial : ℕ) → NumberedLink → NumberedLink
+led number serial link = if link.number == number then record link { cursor = serial + 1 } else link
 
 -- A new link of a record counts as ready, or there is none of this number.
 abbrev pub ReadiesOn : ℕ → List Item → List ℕ → Bool → List NumberedLink → Type 0

@@ -2,11 +2,15 @@
 ghost use Rattle.std.specs.Prelude.{◌≡◌, List, ℕ, IfOk, map};
 ghost use Rattle.rws_record.specs.Item.{Item};
 ghost use Rattle.rws_links.specs.Links.{link_of, number_of};
-ghost use Rattle.rws_links.specs.Table.{AreDistinct, ReadsFirst, bans, is_failed};
+ghost use Rattle.rws_commands.specs.Statements.{is_otherwise};
+ghost use Rattle.rws_links.specs.Table.{AreDistinct, ReadsFirst, bans, is_different, is_entry, is_failed, statement_of};
 ghost use Rattle.rws_routing.specs.Routings.{with_server};
 
+use crate::numbered::is_whole;
 use crate::{Asked, NumberedLink};
+use rws_commands::PreparedAs;
 use rws_link::LinkStep;
+use rws_msgs::PrepareOk;
 use rws_reply::{Outcome, Progress};
 use std::alloc::AllocError;
 
@@ -21,18 +25,60 @@ pub struct Coming {
     pub said: LinkStep,
     /// What was sent on it last, which a payload of a reply answers.
     pub asked: Option<Asked>,
+    /// The statement that the reply told of so far, with what was said, if what was asked is a prepare.
+    pub named: Option<PrepareOk>,
 }
 
 impl Coming {
-    /// A set of servers with that of the link, where it answered an entry of the history by an error: it isn't as the server that
-    /// the entry was first sent to.
+    /// A set of servers with that of the link, where it answered an entry of the history by an error, or prepared its statement
+    /// with other counts: it isn't as the server that the entry was first sent to.
     pub fn bans(&self, before: u8) -> u8
-        ensures { result ≡ bans self.now.said self.now.asked self.now.server before }
+        ensures { result ≡ bans self.now.said self.now.asked self.now.named self.now.server before }
     {
-        if is_failed(&self.said) && self.asked == Some(Asked::Entry) {
+        if self.is_different() {
             return with_server(self.server, before);
         }
         before
+    }
+
+    /// It ends the reply to an entry, otherwise than that of the server which the entry was first sent to.
+    fn is_different(&self) -> bool
+        ensures { result ≡ is_different self.now.said self.now.asked self.now.named }
+    {
+        if is_failed(&self.said) && is_entry(self.asked) {
+            return true;
+        }
+        is_whole(&self.said) && is_otherwise(statement_of(self.asked), self.named)
+    }
+}
+
+/// What was asked is an entry of the history.
+fn is_entry(asked: Option<Asked>) -> bool
+    ensures { result ≡ is_entry asked }
+{
+    match asked {
+        Some(Asked::Entry { .. }) => true,
+        Some(Asked::Preamble | Asked::Command) | None => false,
+    }
+}
+
+/// How the statement was prepared first that an entry prepares.
+fn statement_of(asked: Option<Asked>) -> Option<PreparedAs>
+    ensures { result ≡ statement_of asked }
+{
+    match asked {
+        Some(Asked::Entry { statement, .. }) => statement,
+        Some(Asked::Preamble | Asked::Command) | None => None,
+    }
+}
+
+/// A statement was prepared with other counts.
+fn is_otherwise(statement: Option<PreparedAs>, named: Option<PrepareOk>) -> bool
+    ensures { result ≡ is_otherwise statement named }
+{
+    match (statement, named) {
+        (Some(how), Some(ok)) => !(how.columns == ok.columns && how.parameters == ok.parameters),
+        _ => false,
     }
 }
 

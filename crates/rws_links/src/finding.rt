@@ -1,12 +1,24 @@
 //! What is found in a table: a link to a server, how many there are, and the first link on which something is due; and what a link
 //! is to its session.
 ghost use Rattle.std.specs.Prelude.{◌≡◌, count_by};
+ghost use Rattle.rws_commands.specs.Statements.{is_behind};
 ghost use Rattle.rws_record.specs.Rules.{is_link};
 ghost use Rattle.rws_routing.specs.Routings.{server_in};
 ghost use Rattle.rws_links.specs.Finding.{due_on, first_due, first_to, leads_to, owes_to};
 
-use crate::{Asked, NumberedLink};
+use crate::NumberedLink;
 use rws_route::Target;
+
+/// What a link waits for that is free.
+#[derive(Clone, Copy, Debug, PartialEq, Eq)]
+pub enum DueKind {
+    /// That by which it is prepared.
+    Preamble,
+    /// An entry of the session's history, which it is to play.
+    Entry,
+    /// A command of the client.
+    Command,
+}
 
 /// What may be sent now.
 #[derive(Clone, Copy, Debug, PartialEq, Eq)]
@@ -14,9 +26,9 @@ pub struct Due {
     /// The link on which it may go.
     pub link: u64,
     /// What it is.
-    pub asked: Asked,
-    /// Which entry of the history is the next one there.
-    pub entry: usize,
+    pub what: DueKind,
+    /// The link has played the history's entries below this serial: the next one there is the first from it on.
+    pub entry: u64,
 }
 
 /// How many links there are to a server.
@@ -61,42 +73,52 @@ fn owes_to(link: &NumberedLink, server: u8) -> bool
     link.server == server && link.link.is_awaiting()
 }
 
-/// The first link on which something is due, and what: `goes` is the link that a command waits for, and the session's history has
-/// so many `entries`.
-pub(crate) fn first_due(links: &[NumberedLink], goes: Option<u64>, entries: usize) -> Option<Due>
-    ensures { result ≡ first_due goes entries links.now }
+/// The first link on which something is due, and what: `goes` is the link that a command waits for, and `last` the serial of the
+/// last entry of the session's history.
+pub(crate) fn first_due(links: &[NumberedLink], goes: Option<u64>, last: Option<u64>) -> Option<Due>
+    ensures { result ≡ first_due goes last links.now }
 {
     match links {
         [] => None,
-        [first, others @ ..] => match due_on(first, goes, entries) {
-            Some(asked) => Some(Due {
+        [first, others @ ..] => match due_on(first, goes, last) {
+            Some(what) => Some(Due {
                 link: first.number,
-                asked,
+                what,
                 entry: first.cursor,
             }),
-            None => first_due(others, goes, entries),
+            None => first_due(others, goes, last),
         },
     }
 }
 
 /// What is due on a link: the preamble as soon as it is logged in, then one entry after the other that it hasn't played, and then
 /// a command that waits for it.
-fn due_on(link: &NumberedLink, goes: Option<u64>, entries: usize) -> Option<Asked>
-    ensures { result ≡ due_on goes entries link.now }
+fn due_on(link: &NumberedLink, goes: Option<u64>, last: Option<u64>) -> Option<DueKind>
+    ensures { result ≡ due_on goes last link.now }
 {
     if !link.link.is_ready() {
         return None;
     }
     if !link.is_up {
-        return Some(Asked::Preamble);
+        return Some(DueKind::Preamble);
     }
-    if link.cursor < entries {
-        return Some(Asked::Entry);
+    if is_behind(last, link.cursor) {
+        return Some(DueKind::Entry);
     }
     if goes == Some(link.number) {
-        return Some(Asked::Command);
+        return Some(DueKind::Command);
     }
     None
+}
+
+/// One that has played the entries below this serial hasn't played the last one.
+fn is_behind(last: Option<u64>, cursor: u64) -> bool
+    ensures { result ≡ is_behind last cursor }
+{
+    match last {
+        Some(last) => !(last < cursor),
+        None => false,
+    }
 }
 
 /// It is this link that is kept there.

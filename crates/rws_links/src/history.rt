@@ -47,16 +47,16 @@ impl Recording {
     }
 }
 
-/// The link of this number led an entry.
-pub(crate) fn lead(links: &mut [NumberedLink], number: u64) -> Result<(), AllocError>
-    ensures ok { OnOk result (links.new ≡ map (led number) links.old) }
+/// The link of this number led the entry of this serial.
+pub(crate) fn lead(links: &mut [NumberedLink], number: u64, serial: u64) -> Result<(), AllocError>
+    ensures ok { OnOk result (links.new ≡ map (led number serial) links.old) }
     ensures numbers { map number_of links.new ≡ map number_of links.old }
 {
     match links.split_first_mut() {
         None => Ok(()),
         Some((first, others)) => {
-            first.lead(number)?;
-            lead(others, number)
+            first.lead(number, serial)?;
+            lead(others, number, serial)
         }
     }
 }

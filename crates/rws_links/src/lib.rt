@@ -3,19 +3,18 @@
 #![tactic(auto)]
 
 mod coming;
-mod command;
 mod finding;
 mod history;
 mod login;
 mod loss;
 mod numbered;
 mod own;
+mod sending;
 mod table;
 mod transaction;
 
 pub use coming::Coming;
-pub use command::{ClassedCommand, is_forbidden};
-pub use finding::{Count, Due, is_link, server_in};
+pub use finding::{Count, Due, DueKind, is_link, server_in};
 pub use history::Recording;
 pub use login::LinkLogin;
 pub use loss::{closing, drop_cause, is_loss};
@@ -23,7 +22,7 @@ pub use numbered::{Asked, NumberedLink};
 pub use own::{own_ok, reserve_farewell};
 pub use table::LinkTable;
 pub use transaction::{
-    answered_by, changes, class_by_pending, not_replayable, sends_again, sets_session,
+    answered_by, class_by_pending, ends_by, not_replayable, prepares, sends_again, sets_session,
 };
 
 #[cfg(test)]

@@ -2,11 +2,11 @@
 ghost use Rattle.std.specs.Prelude.{◌≡◌, IfOk};
 ghost use Rattle.rws_wire.specs.Packets.{spelling};
 ghost use Rattle.rws_msgs.specs.ErrLayout.{err_bytes};
-ghost use Rattle.rws_record.specs.declared.proxy_error.ProxyError.TheVariants.{OutOfMemory};
-ghost use Rattle.rws_record.specs.Errors.{error_of};
+ghost use Rattle.rws_commands.specs.declared.proxy_error.ProxyError.TheVariants.{OutOfMemory};
+ghost use Rattle.rws_commands.specs.Errors.{error_of};
 ghost use Rattle.rws_record.specs.Outputs.{own_ok};
 
-use rws_record::ProxyError;
+use rws_commands::ProxyError;
 use rws_wire::frame;
 use std::alloc::{AllocError, Global};
 

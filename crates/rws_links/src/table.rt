@@ -10,6 +10,9 @@ ghost use Rattle.rws_link.specs.Linking.{is_awaiting, kept};
 ghost use Rattle.rws_record.specs.Item.{Item, Purpose};
 ghost use Rattle.rws_record.specs.Item.Item.{LinkBytes};
 ghost use Rattle.rws_record.specs.Item.Purpose.{Asks, Plays};
+ghost use Rattle.rws_record.specs.Rules.{is_ready, is_same};
+ghost use Rattle.rws_record.specs.Values.{contains, is_up, linked};
+ghost use Rattle.rws_commands.specs.Commands.{asked_under};
 ghost use Rattle.rws_links.specs.Finding.{first_due, first_to, leads_to, owes_to};
 ghost use Rattle.rws_links.specs.Links.{link_of, new_link, number_of};
 ghost use Rattle.rws_links.specs.Table.{AreDistinct, IsSending, ReadiesOn, ReadsFirst, SendsOn, has_number, led, without_number};
@@ -18,11 +21,11 @@ use crate::coming::read_first;
 use crate::finding::{first_due, first_to, load_of};
 use crate::history::lead;
 use crate::{Asked, Coming, Count, Due, LinkLogin, NumberedLink};
+use rws_commands::{Command, HistoryEntry};
 use rws_link::Link;
 use rws_native::Login;
-use rws_record::Command;
 use rws_reply::Kind;
-use rws_wire::Text;
+use rws_wire::{PayloadList, Text};
 use std::alloc::{AllocError, Global};
 use std::marker::Model;
 
@@ -49,7 +52,7 @@ impl Model for LinkTable {
 impl LinkTable {
     /// A table of one link, to a server of the settings, that is ready for commands.
     pub fn begin(alloc: Global, number: u64, server: u8) -> Result<LinkTable, AllocError>
-        ensures { IfOk result (λ table. table ≡ record { number = number; server = server; is_up = true; asked = None; cursor = 0; link = kept Rests } ∷ []) }
+        ensures { IfOk result (λ table. table ≡ record { number = number; server = server; is_up = true; asked = None; named = None; cursor = 0; link = kept Rests } ∷ []) }
     {
         let mut links = Vec::new(alloc);
         links.push(NumberedLink {
@@ -57,6 +60,7 @@ impl LinkTable {
             server,
             is_up: true,
             asked: None,
+            named: None,
             cursor: 0,
             link: ready_link(alloc)?,
         })?;
@@ -92,6 +96,7 @@ impl LinkTable {
             server,
             is_up: false,
             asked: None,
+            named: None,
             cursor: 0,
             link,
         })?;
@@ -159,12 +164,12 @@ impl LinkTable {
     }
 
     /// The first link on which something is due, in order of number: the preamble on one that is logged in and isn't prepared; an
-    /// entry of the history, which has so many, on one that is prepared, owes no reply and has some to play; and a command
-    /// that waits for link `goes` on that one, behind those.
-    pub fn due(&self, goes: Option<u64>, entries: usize) -> Option<Due>
-        ensures { result ≡ first_due goes entries self.now }
+    /// entry of the history, whose last one has the serial `last`, on one that is prepared, owes no reply and has some to play;
+    /// and a command that waits for link `goes` on that one, behind those.
+    pub fn due(&self, goes: Option<u64>, last: Option<u64>) -> Option<Due>
+        ensures { result ≡ first_due goes last self.now }
     {
-        first_due(self.links.as_slice(), goes, entries)
+        first_due(self.links.as_slice(), goes, last)
     }
 
     /// Bytes came on a link: it holds them until it is read. On a link that isn't there they change nothing.
@@ -182,10 +187,36 @@ impl LinkTable {
         }
     }
 
-    /// Sends something on a link, which a reply of this kind answers, if the link is there and may be sent it; the answer is whether
-    /// it was. Entries and commands go on a link that is prepared, the preamble on one that isn't, all on one that has logged in
-    /// and owes no reply. What goes out is appended to `out`, as packets from the number 0 on.
+    /// Sends payloads on a link, each as a command of its own, of which the last is answered by a reply of this kind, if the link is
+    /// there and may be sent them; the answer is whether they were. Entries and commands go on a link that is prepared, the
+    /// preamble on one that isn't, all on one that has logged in and owes no reply. What goes out for each payload is appended to
+    /// `out`, as packets from the number 0 on. No payloads send nothing, and leave the link at rest.
     pub fn send(
+        &mut self,
+        number: u64,
+        asked: Asked,
+        payloads: &PayloadList,
+        kind: Kind,
+        out: &mut PayloadList,
+    ) -> Result<bool, AllocError>
+        ensures ok { (purpose : Purpose) (past : List Item) (links : List ℕ) → IsSending asked payloads.now kind purpose
+            → self.old ≡ map (link_of past) links → AreDistinct links
+            → IfOk result (λ went. SendsOn number purpose past links went self.new) }
+        ensures out { IfOk result (λ went. out.new ≡ out.old ++ (if went then map (spelling 0) payloads.now else [])) }
+        ensures numbers { map number_of self.new ≡ map number_of self.old }
+    {
+        let alloc = *self.links.allocator();
+        match self.place(number) {
+            None => Ok(false),
+            Some(at) => {
+                let link = &mut self.links[at];
+                link.send(alloc, asked, payloads, kind, out)
+            }
+        }
+    }
+
+    /// Sends one payload in the same way. What goes out is appended to `out`.
+    pub fn send_one(
         &mut self,
         number: u64,
         asked: Asked,
@@ -193,7 +224,7 @@ impl LinkTable {
         kind: Kind,
         out: &mut Vec<u8>,
     ) -> Result<bool, AllocError>
-        ensures ok { (purpose : Purpose) (past : List Item) (links : List ℕ) → IsSending asked payload.now kind purpose
+        ensures ok { (purpose : Purpose) (past : List Item) (links : List ℕ) → IsSending asked (payload.now ∷ []) kind purpose
             → self.old ≡ map (link_of past) links → AreDistinct links
             → IfOk result (λ went. SendsOn number purpose past links went self.new) }
         ensures out { IfOk result (λ went. out.new.items ≡ out.old.items ++ (if went then spelling 0 payload.now else [])) }
@@ -203,32 +234,35 @@ impl LinkTable {
             None => Ok(false),
             Some(at) => {
                 let link = &mut self.links[at];
-                link.send(asked, payload, kind, out)
+                link.send_one(asked, payload, kind, out)
             }
         }
     }
 
-    /// Sends a command of the client on a link, if that is there and may be sent one; the answer is whether it was.
+    /// Sends a command of the client on a link, if that is there and may be sent one; the answer is whether it was. Its payloads are
+    /// those by which the link's server is asked, which has this id for the statement of an execute.
     pub fn send_command(
         &mut self,
         number: u64,
+        id: Option<u32>,
         command: &Command,
-        out: &mut Vec<u8>,
+        payloads: &PayloadList,
+        out: &mut PayloadList,
     ) -> Result<bool, AllocError>
+        requires { payloads.now ≡ asked_under id command.now.body }
         ensures ok { (past : List Item) (links : List ℕ) → self.old ≡ map (link_of past) links → AreDistinct links
-            → IfOk result (λ went. SendsOn number (Asks command.now) past links went self.new) }
-        ensures out { IfOk result (λ went. out.new.items ≡ out.old.items ++ (if went then spelling 0 command.now.payload else [])) }
+            → IfOk result (λ went. SendsOn number (Asks command.now id) past links went self.new) }
+        ensures out { IfOk result (λ went. out.new ≡ out.old ++ (if went then map (spelling 0) payloads.now else [])) }
         ensures numbers { map number_of self.new ≡ map number_of self.old }
     {
-        let payload = command.payload.as_slice();
-        self.send(number, Asked::Command, payload, command.kind, out)
+        self.send(number, Asked::Command, payloads, command.kind, out)
     }
 
     /// Sends an entry of the history on a link, if that is there and may be sent one; the answer is whether it was.
     pub fn send_entry(
         &mut self,
         number: u64,
-        entry: &Command,
+        entry: &HistoryEntry,
         out: &mut Vec<u8>,
     ) -> Result<bool, AllocError>
         ensures ok { (past : List Item) (links : List ℕ) → self.old ≡ map (link_of past) links → AreDistinct links
@@ -236,16 +270,45 @@ impl LinkTable {
         ensures out { IfOk result (λ went. out.new.items ≡ out.old.items ++ (if went then spelling 0 entry.now.payload else [])) }
         ensures numbers { map number_of self.new ≡ map number_of self.old }
     {
+        let asked = Asked::Entry {
+            serial: entry.serial,
+            statement: entry.statement,
+        };
         let payload = entry.payload.as_slice();
-        self.send(number, Asked::Entry, payload, entry.kind, out)
+        self.send_one(number, asked, payload, entry.kind, out)
     }
 
-    /// A link led an entry of the history: it has come one further there.
-    pub fn lead(&mut self, number: u64) -> Result<(), AllocError>
-        ensures ok { OnOk result (self.new ≡ map (led number) self.old) }
+    /// Sends a command that has no reply on a link, if that is there, prepared and free; the answer is whether it was. The link stays
+    /// as it is. What goes out is appended to `out`, as packets from the number 0 on.
+    pub fn send_silent(
+        &mut self,
+        number: u64,
+        payload: &[u8],
+        out: &mut PayloadList,
+    ) -> Result<bool, AllocError>
+        ensures ok { (past : List Item) (links : List ℕ) → self.old ≡ map (link_of past) links → AreDistinct links
+            → IfOk result (λ went.
+            (went ≡ (contains number links && (is_same true (is_up number past) && is_ready (linked number past))))
+            × (self.new ≡ self.old)) }
+        ensures out { IfOk result (λ went. out.new ≡ out.old ++ (if went then spelling 0 payload.now ∷ [] else [])) }
         ensures numbers { map number_of self.new ≡ map number_of self.old }
     {
-        lead(self.links.as_mut_slice(), number)
+        let alloc = *self.links.allocator();
+        match self.place(number) {
+            None => Ok(false),
+            Some(at) => {
+                let link = &self.links[at];
+                link.tell(alloc, payload, out)
+            }
+        }
+    }
+
+    /// A link led the entry of this serial: it has come behind it.
+    pub fn lead(&mut self, number: u64, serial: u64) -> Result<(), AllocError>
+        ensures ok { OnOk result (self.new ≡ map (led number serial) self.old) }
+        ensures numbers { map number_of self.new ≡ map number_of self.old }
+    {
+        lead(self.links.as_mut_slice(), number, serial)
     }
 
     /// A link is lost, or given up: it is taken away, and what it holds is forgotten.

@@ -1,10 +1,11 @@
 //! A table's links from their opening to their end, with ample memory.
 
 use super::*;
+use rws_commands::PreparedAs;
 use rws_link::LinkStep;
 use rws_native::Login;
 use rws_reply::{Kind, Outcome, Progress};
-use rws_wire::{CloseReason, Text};
+use rws_wire::{CloseReason, PayloadList, Text};
 use std::alloc::{AllocError, Global};
 use std::test::Fail;
 
@@ -19,7 +20,7 @@ const OK: &[u8] = b"\x07\0\0\x01\0\0\0\x02\0\0\0";
 /// Something is sent on a link: whether it was, and as the packet that it is to be.
 fn send(alloc: Global, table: &mut LinkTable, link: u64, asked: Asked) -> Result<bool, AllocError> {
     let mut out = Vec::new(alloc);
-    let went = table.send(link, asked, QUERY, Kind::Query, &mut out)?;
+    let went = table.send_one(link, asked, QUERY, Kind::Query, &mut out)?;
     Ok(went && out.as_slice() == PACKET)
 }
 
@@ -108,29 +109,29 @@ fn a_new_link_counts_as_ready(rt: HostRuntime) -> Result<(), Fail> {
 fn an_entry_is_played_where_it_was_not_led(rt: HostRuntime) -> Result<(), Fail> {
     let mut table = LinkTable::begin(rt.alloc(), 3, 0)?;
     assert!(rt; open(rt.alloc(), &mut table, 5).is_ok() && table.ready(5));
-    assert!(rt; table.lead(3).is_ok());
-    assert_eq!(rt; table.due(Some(3), 1), due(3, Asked::Command, 1));
-    assert_eq!(rt; table.due(Some(5), 1), due(5, Asked::Entry, 0));
-    assert_eq!(rt;
-        send(rt.alloc(), &mut table, 5, Asked::Entry).ok(),
-        Some(true)
-    );
+    assert!(rt; table.lead(3, 6).is_ok());
+    assert_eq!(rt; table.due(Some(3), Some(6)), due(3, DueKind::Command, 7));
+    assert_eq!(rt; table.due(Some(5), Some(6)), due(5, DueKind::Entry, 0));
+    assert_eq!(rt; send(rt.alloc(), &mut table, 5, ENTRY).ok(), Some(true));
     assert_eq!(rt; answer(&mut table, 5).ok(), Some(Some((5, false))));
-    assert_eq!(rt; table.due(Some(5), 1), due(5, Asked::Command, 1));
+    assert_eq!(rt; table.due(Some(5), Some(6)), due(5, DueKind::Command, 7));
     Ok(())
 }
 
-fn due(link: u64, asked: Asked, entry: usize) -> Option<Due> {
-    Some(Due { link, asked, entry })
+/// The entry of serial 6, which prepares no statement.
+const ENTRY: Asked = Asked::Entry {
+    serial: 6,
+    statement: None,
+};
+
+fn due(link: u64, what: DueKind, entry: u64) -> Option<Due> {
+    Some(Due { link, what, entry })
 }
 
 #[test]
 fn a_server_that_differs_is_banned(rt: HostRuntime) -> Result<(), Fail> {
     let mut table = LinkTable::begin(rt.alloc(), 3, 2)?;
-    assert_eq!(rt;
-        send(rt.alloc(), &mut table, 3, Asked::Entry).ok(),
-        Some(true)
-    );
+    assert_eq!(rt; send(rt.alloc(), &mut table, 3, ENTRY).ok(), Some(true));
     assert_eq!(rt; fail(&mut table, 3).ok(), Some(Some(5)));
     assert_eq!(rt;
         send(rt.alloc(), &mut table, 3, Asked::Command).ok(),
@@ -143,11 +144,80 @@ fn a_server_that_differs_is_banned(rt: HostRuntime) -> Result<(), Fail> {
 #[test]
 fn a_command_is_due_on_its_link(rt: HostRuntime) -> Result<(), Fail> {
     let table = LinkTable::begin(rt.alloc(), 3, 0)?;
-    assert_eq!(rt; (table.due(None, 0), table.due(Some(4), 0)), (None, None));
-    assert_eq!(rt; table.due(Some(3), 0), due(3, Asked::Command, 0));
+    assert_eq!(rt;
+        (table.due(None, None), table.due(Some(4), None)),
+        (None, None)
+    );
+    assert_eq!(rt; table.due(Some(3), None), due(3, DueKind::Command, 0));
     assert_eq!(rt; (table.to_server(0), table.to_server(1)), (Some(3), None));
     let load = table.load(0);
     assert_eq!(rt; (load.pending, load.links), (0, 1));
+    Ok(())
+}
+
+/// COM_STMT_PREPARE `x` is answered: statement 9, of no columns and no parameters.
+const PREPARED: &[u8] = b"\x0c\0\0\x01\0\x09\0\0\0\0\0\0\0\0\0\0";
+
+/// An entry that prepares a statement is played: the servers that are banned then, where it had so many parameters before.
+fn prepare(
+    alloc: Global,
+    table: &mut LinkTable,
+    parameters: u16,
+) -> Result<Option<(u8, Option<u32>)>, AllocError> {
+    let statement = Some(PreparedAs {
+        number: 1,
+        columns: 0,
+        parameters,
+    });
+    let asked = Asked::Entry {
+        serial: 0,
+        statement,
+    };
+    let mut out = Vec::new(alloc);
+    table.send_one(3, asked, b"\x16x", Kind::Prepare, &mut out)?;
+    table.feed(3, PREPARED)?;
+    match table.read()? {
+        None => Ok(None),
+        Some(coming) => Ok(Some((coming.bans(1), coming.named.map(|ok| ok.id)))),
+    }
+}
+
+#[test]
+fn a_server_that_prepares_otherwise_is_banned(rt: HostRuntime) -> Result<(), Fail> {
+    let mut table = LinkTable::begin(rt.alloc(), 3, 2)?;
+    assert_eq!(rt;
+        prepare(rt.alloc(), &mut table, 0).ok(),
+        Some(Some((1, Some(9))))
+    );
+    assert_eq!(rt;
+        prepare(rt.alloc(), &mut table, 2).ok(),
+        Some(Some((5, Some(9))))
+    );
+    Ok(())
+}
+
+/// A piece of long data and an execute go on a link, and a statement is closed on it behind them: what went out.
+fn execute(alloc: Global, table: &mut LinkTable) -> Result<PayloadList, AllocError> {
+    let mut payloads = PayloadList::new(alloc);
+    payloads.push(Text::from_slice(alloc, b"\x18l")?)?;
+    payloads.push(Text::from_slice(alloc, b"\x17e")?)?;
+    let mut out = PayloadList::new(alloc);
+    table.send_silent(3, b"\x19c", &mut out)?;
+    table.send(3, Asked::Command, &payloads, Kind::Query, &mut out)?;
+    table.send_silent(3, b"\x19c", &mut out)?;
+    Ok(out)
+}
+
+#[test]
+fn long_data_goes_before_its_execute(rt: HostRuntime) -> Result<(), Fail> {
+    let mut table = LinkTable::begin(rt.alloc(), 3, 2)?;
+    let out = execute(rt.alloc(), &mut table)?;
+    let wanted: [&[u8]; 3] = [b"\x02\0\0\0\x19c", b"\x02\0\0\0\x18l", b"\x02\0\0\0\x17e"];
+    assert_eq!(rt; out.len(), wanted.len());
+    for at in 0..wanted.len() {
+        assert_eq!(rt; out.as_slice()[at].as_slice(), wanted[at]);
+    }
+    assert!(rt; table.awaits(3));
     Ok(())
 }
 

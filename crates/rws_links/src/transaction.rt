@@ -1,15 +1,16 @@
 //! What a reply to the pending command means for the session's transaction, and what the transaction means for a command.
 ghost use Rattle.std.specs.Prelude.{◌≡◌};
 ghost use Rattle.rws_trx.specs.OnLinks.{added};
-ghost use Rattle.rws_record.specs.Judging.{changes};
 ghost use Rattle.rws_record.specs.Rules.{again_by, not_replayable};
-ghost use Rattle.rws_record.specs.Values.{answer_to, answered_by, class_by_pending, is_session, length_by, speaks};
+ghost use Rattle.rws_commands.specs.Commands.{is_session};
+ghost use Rattle.rws_record.specs.Values.{answer_to, answered_by, class_by_pending, ends_by, is_end, length_by, prepares, shown_by, speaks};
+ghost use Rattle.rws_commands.specs.Statements.{is_prepared};
 
-use crate::ClassedCommand;
 use rws_class::Class;
-use rws_reply::Outcome;
+use rws_commands::ClassedCommand;
+use rws_reply::{Kind, Outcome};
 use rws_routing::Routing;
-use rws_trx::{Answer, Open, Transaction, TrxState};
+use rws_trx::{Answer, Course, Open, Transaction, TrxState};
 use rws_wire::CloseReason;
 
 /// The class of the pending command.
@@ -47,7 +48,7 @@ pub fn sends_again(pending: &Option<ClassedCommand>, state: TrxState) -> bool
     ensures { result ≡ again_by pending.now state }
 {
     match pending {
-        Some(command) => command.sends_again(state),
+        Some(command) => state.sends_again(command.class()),
         None => true,
     }
 }
@@ -63,7 +64,7 @@ pub fn answered_by(
 ) -> Transaction
     ensures { result ≡ answered_by kept_on pending.now link outcome routing transaction }
 {
-    let answer = answer_to(pending, link, outcome);
+    let answer = answer_to(pending, link, outcome, transaction.state);
     let pinned = kept_on.or(transaction.link);
     if speaks(pinned, link, answer.class, routing) {
         return transaction.answered(answer);
@@ -71,16 +72,78 @@ pub fn answered_by(
     transaction
 }
 
-/// The reply to the pending command came on a link, and ended so.
-fn answer_to(pending: &Option<ClassedCommand>, link: u64, outcome: Outcome) -> Answer
-    ensures { result ≡ answer_to pending.now link outcome }
+/// The end of the pending command's reply on a link ends the transaction that is open.
+pub fn ends_by(
+    kept_on: Option<u64>,
+    pending: &Option<ClassedCommand>,
+    link: u64,
+    outcome: Outcome,
+    routing: Routing,
+    transaction: Transaction,
+) -> bool
+    ensures { result ≡ ends_by kept_on pending.now link outcome routing transaction }
+{
+    let answer = answer_to(pending, link, outcome, transaction.state);
+    let pinned = kept_on.or(transaction.link);
+    speaks(pinned, link, answer.class, routing)
+        && transaction.state.is_open()
+        && is_end(transaction.state.course(answer.class, answer.outcome))
+}
+
+/// A transaction ends with a reply that means this for it.
+fn is_end(course: Course) -> bool
+    ensures { result ≡ is_end course }
+{
+    match course {
+        Course::GoesOn => false,
+        Course::Begins | Course::IsNone => true,
+    }
+}
+
+/// The reply to the pending command came on a link, and ended so, where the transaction stood so.
+fn answer_to(
+    pending: &Option<ClassedCommand>,
+    link: u64,
+    outcome: Outcome,
+    state: TrxState,
+) -> Answer
+    ensures { result ≡ answer_to pending.now link outcome state }
 {
     Answer {
         link,
         class: class_by_pending(pending),
         bytes: pending_bytes(pending),
-        outcome,
+        outcome: shown_by(prepares(pending), outcome, state),
     }
+}
+
+/// What a reply shows of the transaction: that of a prepare without an error shows nothing, as if all were as before.
+fn shown_by(prepares: bool, outcome: Outcome, state: TrxState) -> Outcome
+    ensures { result ≡ shown_by prepares outcome state }
+{
+    match outcome {
+        Outcome::Done { .. } if prepares => Outcome::Done {
+            status: state.status(),
+        },
+        _ => outcome,
+    }
+}
+
+/// The pending command prepares a statement.
+pub fn prepares(pending: &Option<ClassedCommand>) -> bool
+    ensures { result ≡ prepares pending.now }
+{
+    match pending {
+        Some(command) => is_prepared(command.command().kind),
+        None => false,
+    }
+}
+
+/// A reply of this kind answers a prepare.
+fn is_prepared(kind: Kind) -> bool
+    ensures { result ≡ is_prepared kind }
+{
+    matches!(kind, Kind::Prepare)
 }
 
 /// A reply to a command of this class, on this link, speaks of the session's state.
@@ -104,16 +167,5 @@ pub fn not_replayable(pending: &Option<ClassedCommand>, transaction: Transaction
         tainted: state.tainted,
         read_only: state.opened == Open::ReadOnly,
         off: true,
-    }
-}
-
-/// A command of this class may change something, or sets the session while its history is full.
-pub fn changes(full: bool, class: Class) -> bool
-    ensures { result ≡ changes full class }
-{
-    match class {
-        Class::Read | Class::PrimaryRead | Class::Commit | Class::Rollback => false,
-        Class::Session => full,
-        _ => true,
     }
 }

@@ -4,8 +4,10 @@ pub mod WithoutLemmas
 pub mod StepLemmas
 pub mod RestLemmas
 pub mod OpeningLemmas
--- how far a link has played the history, and how long that may be
+-- how far a link has played the history
 pub mod HistoryLemmas
+-- how long that may be
+pub mod RoomLemmas
 pub mod EntryLemmas
 -- the law that events determine the run
 pub mod OneRunLemmas
@@ -17,6 +19,7 @@ pub mod LoginRuns
 pub mod RouteRuns
 pub mod HistoryRuns
 pub mod TransactionRuns
+pub mod StatementRuns
 -- the laws on the records in a run
 pub mod OrderLemmas
 pub mod RecordLemmas

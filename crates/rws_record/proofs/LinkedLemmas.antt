@@ -23,8 +23,8 @@ use Rattle.rws_link.specs.Handshake.{due, reaction}
 use Rattle.rws_link.specs.Stepping.{LinkState, LogsIn, Rests, Awaits, IsLost, Exchange, Step, fed, is_new, logged_in, opened as opening, reacted, sent, step, settled, behind_part, with_part, replied, replied_by, read_by, is_some_byte}
 use Rattle.rws_record.specs.Item.{Item, Purpose}
 use Rattle.rws_record.specs.Item.Item.{Accepted, TurnsAway, Began, ClientBytes, LinkReady, LinkBytes, ClientGone, LinkLost, Ticks, Routed, Comes, Connects, Takes, Floods, Puts, Starves}
-use Rattle.rws_record.specs.Item.Put.{Hands, Tells, Routes, Opens, LogsInto, Sends, Drops, Closes}
-use Rattle.rws_record.specs.Values.{asked_on, linked, sent_for, kind_of}
+use Rattle.rws_record.specs.Item.Put.{Hands, Tells, Routes, Opens, LogsInto, Sends, Forgets, Drops, Closes}
+use Rattle.rws_record.specs.Values.{asked_on, linked, sent_all, sent_for, kind_of}
 
 -- what a link says that says something
 pub data Says : LinkState → LinkStep → Type 0 where
@@ -256,9 +256,16 @@ changed_asked : (test : Bool) (changed link : LinkState) (asked : Option Purpose
 changed_asked true changed link asked c l = c
 changed_asked false changed link asked c l = l
 
+-- the reply that a link awaits which was sent payloads is of their kind
+sent_kind : (payloads : List (List ℕ)) (kind k : Kind) → kind_awaited (sent_all payloads kind) ≡ Some k → kind ≡ k
+sent_kind [] kind k e = absurd cc
+sent_kind (payload ∷ []) kind k e = cc
+sent_kind (payload ∷ second ∷ others) kind k e = sent_kind (second ∷ others) kind k e
+
 sent_asked : (test : Bool) (purpose : Purpose) (link : LinkState) (asked : Option Purpose) → IsAsked link asked
-    → IsAsked (if test then sent (sent_for purpose) (Some (kind_of purpose)) else link) (if test then Some purpose else asked)
-sent_asked true purpose link asked l = λ kind k. record { purpose = purpose; is = refl; answered = cc }
+    → IsAsked (if test then sent_all (sent_for purpose) (kind_of purpose) else link) (if test then Some purpose else asked)
+sent_asked true purpose link asked l =
+    λ kind k. record { purpose = purpose; is = refl; answered = sent_kind (sent_for purpose) (kind_of purpose) kind k }
 sent_asked false purpose link asked l = l
 
 opened_asked : (test : Bool) (login : Login) (link : LinkState) (asked : Option Purpose) → IsAsked link asked
@@ -298,6 +305,7 @@ was_asked link (Puts (Hands packets) ∷ past) = was_asked link past
 was_asked link (Puts Routes ∷ past) = was_asked link past
 was_asked link (Puts (LogsInto to packets) ∷ past) = was_asked link past
 was_asked link (Puts (Tells number tell) ∷ past) = was_asked link past
+was_asked link (Puts (Forgets to id) ∷ past) = was_asked link past
 was_asked link (Puts (Drops given cause) ∷ past) = was_asked link past
 was_asked link (Puts (Closes reason) ∷ past) = was_asked link past
 

@@ -17,22 +17,27 @@ use Rattle.rws_route.specs.declared.destination.Target.{Target}
 use Rattle.rws_route.specs.declared.destination.Target.TheVariants.{Primary, Replica, NoPrimary as Nowhere}
 use Rattle.rws_trx.specs.OnLinks.{status_of}
 use Rattle.rws_wire.specs.declared.close_reason.CloseReason.{CloseReason}
-use Rattle.rws_record.specs.declared.command.Command.{Command}
-use Rattle.rws_record.specs.Item.{Item, Purpose, Judged, Put, Recording, Tell}
+use Rattle.rws_msgs.specs.declared.prepare_ok.PrepareOk.{PrepareOk}
+use Rattle.rws_commands.specs.declared.command.Command.{Command}
+use Rattle.rws_commands.specs.declared.history.HistoryEntry.{HistoryEntry}
+use Rattle.rws_commands.specs.Statements.{is_otherwise, next_handle}
+use Rattle.rws_commands.specs.declared.judged.Judged.{Judged}
+use Rattle.rws_record.specs.Item.{Item, Purpose, Put, Recording, Tell}
 use Rattle.rws_record.specs.Item.Item.{Accepted, TurnsAway, Began, ClientBytes, LinkReady, LinkBytes, ClientGone, LinkLost, Ticks, Routed, Comes, Connects, Takes, Floods, Puts, Starves}
-use Rattle.rws_record.specs.Item.Judged.{Leaves, Pings, IsRefused, Serves}
+use Rattle.rws_commands.specs.declared.judged.Judged.TheVariants.{Leaves, IsOwn, IsRefused, IsSilent, HasTooMuch, Serves}
 use Rattle.rws_record.specs.Item.Purpose.{Prepares, Asks, Plays}
 use Rattle.rws_record.specs.Item.Recording.{Nothing, Accepts, Keeps}
 use Rattle.rws_record.specs.Item.Tell.{Passes, Owns, Refuses}
-use Rattle.rws_record.specs.Item.Put.{Hands, Tells, Routes, Opens, LogsInto, Sends, Drops, Closes}
-use Rattle.rws_record.specs.Values.{asking, asked_on, class_of_command, keeps, kept_on, links, now, opens, is_over, reply_number, without, transaction}
-use Rattle.rws_record.specs.Rules.{Loss, CutsReply, HidesOutcome, TakesState, EndsTransaction, StartsReplay, SendsElsewhere, IsForgotten, after_answer, after_command, after_coming, after_connecting, after_keeping, after_loss, after_loss_by, after_part, after_played, after_preparing, after_route, after_turning_away, after_want, farewells, follow, form_of, is_loss, loss_of, next, opening, owed, recording_of, refusing, unasked, ending}
+use Rattle.rws_record.specs.Item.Put.{Hands, Tells, Routes, Opens, LogsInto, Sends, Forgets, Drops, Closes}
+use Rattle.rws_commands.specs.Commands.{class_of_command, keeps}
+use Rattle.rws_record.specs.Values.{asking, asked_on, kept_on, links, named_in, named_on, now, opens, is_over, reply_number, statements, without, transaction}
+use Rattle.rws_record.specs.Rules.{Loss, CutsReply, HidesOutcome, TakesState, EndsTransaction, StartsReplay, SendsElsewhere, IsForgotten, after_answer, after_command, after_coming, after_connecting, after_keeping, after_loss, after_loss_by, after_part, after_played, after_preparing, after_route, after_turning_away, after_want, differing, farewells, follow, form_of, is_loss, loss_of, next, opening, owed, recording_of, refusing, unasked, ending}
 use Rattle.rws_record.specs.Record.{IsBeginning, IsInput, IsRecord, GoesOn}
 use Rattle.rws_record.specs.Record.IsRecord.{begins, steps as record_steps, answers, hears, starves}
 use Rattle.rws_record.specs.Record.GoesOn.{stays, then as goes_then}
 use Rattle.rws_record.proofs.StepLemmas.{Due, Step, goes_unasking, of_next}
 use Rattle.rws_record.proofs.StepLemmas.Due.{comes, connects, takes}
-use Rattle.rws_record.proofs.StepLemmas.Step.{pays, asks, prepares, plays, sends, floods, reads}
+use Rattle.rws_record.proofs.StepLemmas.Step.{pays, asks, prepares, forgets, plays, sends, floods, reads}
 
 -- neither the worker is asked nor a link opened
 abbrev pub is_plain : List Put → Bool
@@ -49,6 +54,7 @@ plain_append (Routes ∷ rest) others f o = absurd cc
 plain_append (Opens link server login ∷ rest) others f o = absurd cc
 plain_append (LogsInto link packets ∷ rest) others f o = plain_append rest others f o
 plain_append (Sends link purpose ∷ rest) others f o = plain_append rest others f o
+plain_append (Forgets link id ∷ rest) others f o = plain_append rest others f o
 plain_append (Drops link cause ∷ rest) others f o = plain_append rest others f o
 plain_append (Closes reason ∷ rest) others f o = plain_append rest others f o
 
@@ -60,6 +66,7 @@ plain_behind (Routes ∷ rest) p = absurd cc
 plain_behind (Opens link server login ∷ rest) p = absurd cc
 plain_behind (LogsInto link packets ∷ rest) p = p
 plain_behind (Sends link purpose ∷ rest) p = p
+plain_behind (Forgets link id ∷ rest) p = p
 plain_behind (Drops link cause ∷ rest) p = p
 plain_behind (Closes reason ∷ rest) p = p
 
@@ -90,9 +97,9 @@ plain_keeping true link (Some kept) list = refl
 plain_keeping false link kept list = refl
 
 plain_telling : (config : Config) (number : ℕ) (tell : Tell) (past : List Item) → is_plain (follow config (Tells number tell) past) ≡ true
-plain_telling config number (Passes link command payload (Some outcome) Keeps) past = plain_keeping true link (kept_on past) (links past)
-plain_telling config number (Passes link command payload (Some outcome) Accepts) past = refl
-plain_telling config number (Passes link command payload (Some outcome) Nothing) past = refl
+plain_telling config number (Passes link command payload (Some ending) Keeps) past = plain_keeping true link (kept_on past) (links past)
+plain_telling config number (Passes link command payload (Some ending) Accepts) past = refl
+plain_telling config number (Passes link command payload (Some ending) Nothing) past = refl
 plain_telling config number (Passes link command payload None recording) past = refl
 plain_telling config number (Owns status) past = refl
 plain_telling config number (Refuses error) past = refl
@@ -104,9 +111,10 @@ plain_follow config Routes past = refl
 plain_follow config (Opens link server login) past = refl
 plain_follow config (LogsInto link packets) past = refl
 plain_follow config (Sends link Prepares) past = refl
-plain_follow config (Sends link (Plays command)) past = refl
-plain_follow config (Sends link (Asks command)) past =
+plain_follow config (Sends link (Plays entry)) past = refl
+plain_follow config (Sends link (Asks command id)) past =
     plain_keeping (keeps (class_of_command command)) link (kept_on past) (links past)
+plain_follow config (Forgets link id) past = refl
 plain_follow config (Drops link cause) past =
     plain_if (is_loss cause) (after_loss config link past) (plain_loss_by (loss_of config link past) (ending config past))
 plain_follow config (Closes reason) past = refl
@@ -115,33 +123,39 @@ plain_unasked : (link : ℕ) (behind : Bool) → is_plain (unasked link behind) 
 plain_unasked link true = refl
 plain_unasked link false = refl
 
-plain_answer : (link : ℕ) (command : Command) (form : List ℕ) (far : Progress) (behind : Bool) (number : ℕ) (recording : Outcome → Recording)
-    → is_plain (after_answer link command form far behind number recording) ≡ true
-plain_answer link command form More behind number recording = refl
-plain_answer link command form (Ends outcome) behind number recording = plain_unasked link behind
+plain_answer : (link : ℕ) (command : Command) (form : List ℕ) (named : Option PrepareOk) (far : Progress) (behind : Bool) (number : ℕ)
+    (recording : Outcome → Recording) → is_plain (after_answer link command form named far behind number recording) ≡ true
+plain_answer link command form named More behind number recording = refl
+plain_answer link command form named (Ends outcome) behind number recording = plain_unasked link behind
 
-plain_played : (link : ℕ) (far : Progress) (behind : Bool) → is_plain (after_played link far behind) ≡ true
-plain_played link More behind = refl
-plain_played link (Ends (Done status)) behind = plain_unasked link behind
-plain_played link (Ends (Failed code)) behind = refl
+plain_differing : (link : ℕ) (otherwise behind : Bool) → is_plain (differing link otherwise behind) ≡ true
+plain_differing link true behind = refl
+plain_differing link false behind = plain_unasked link behind
+
+plain_played : (link : ℕ) (entry : HistoryEntry) (named : Option PrepareOk) (far : Progress) (behind : Bool)
+    → is_plain (after_played link entry named far behind) ≡ true
+plain_played link entry named More behind = refl
+plain_played link entry named (Ends (Done status)) behind = plain_differing link (is_otherwise entry.statement named) behind
+plain_played link entry named (Ends (Failed code)) behind = refl
 
 plain_preparing : (link : ℕ) (far : Progress) (behind : Bool) → is_plain (after_preparing link far behind) ≡ true
 plain_preparing link More behind = refl
 plain_preparing link (Ends (Done status)) behind = plain_unasked link behind
 plain_preparing link (Ends (Failed code)) behind = refl
 
-plain_part : (config : Config) (link : ℕ) (purpose : Option Purpose) (form : List ℕ) (far : Progress) (behind : Bool) (number : ℕ) (past : List Item)
-    → is_plain (after_part config link purpose form far behind number past) ≡ true
-plain_part config link (Some (Asks command)) form far behind number past =
-    plain_answer link command form far behind number (λ outcome. recording_of config past outcome)
-plain_part config link (Some (Plays command)) form far behind number past = plain_played link far behind
-plain_part config link (Some Prepares) form far behind number past = plain_preparing link far behind
-plain_part config link None form far behind number past = refl
+plain_part : (config : Config) (link : ℕ) (purpose : Option Purpose) (form : List ℕ) (named : Option PrepareOk) (far : Progress) (behind : Bool)
+    (number : ℕ) (past : List Item) → is_plain (after_part config link purpose form named far behind number past) ≡ true
+plain_part config link (Some (Asks command id)) form named far behind number past =
+    plain_answer link command form named far behind number (λ outcome. recording_of config link past outcome)
+plain_part config link (Some (Plays entry)) form named far behind number past = plain_played link entry named far behind
+plain_part config link (Some Prepares) form named far behind number past = plain_preparing link far behind
+plain_part config link None form named far behind number past = refl
 
 plain_coming : (config : Config) (link : ℕ) (said : LinkStep) (purpose : Option Purpose) (number : ℕ) (past : List Item)
     → is_plain (after_coming config link said purpose number past) ≡ true
 plain_coming config link (steps.Part payload role progress next behind) purpose number past =
-    plain_part config link purpose (form_of role payload) progress behind number past
+    plain_part config link purpose (form_of (next_handle (statements config past)) role payload) (named_in role payload (named_on link past))
+    progress behind number past
 plain_coming config link (steps.Lost cause) purpose number past = refl
 plain_coming config link (steps.Send packets) purpose number past = refl
 plain_coming config link steps.LoggedIn purpose number past = refl
@@ -156,8 +170,10 @@ plain_connecting fronts.Idle = refl
 
 plain_command : (judged : Judged) (number status : ℕ) → is_plain (after_command judged number status) ≡ true
 plain_command Leaves number status = refl
-plain_command Pings number status = refl
+plain_command IsOwn number status = refl
 plain_command (IsRefused error) number status = refl
+plain_command IsSilent number status = refl
+plain_command (HasTooMuch bytes) number status = refl
 plain_command (Serves command) number status = refl
 
 plain_want : (over made : Bool) (number : ℕ) (list : List Put) → is_plain list ≡ true → is_plain (after_want over made number list) ≡ true
@@ -231,6 +247,7 @@ plainness config (Puts Routes ∷ past) = given config Routes past (plainness co
 plainness config (Puts (Opens link server login) ∷ past) = given config (Opens link server login) past (plainness config past).1
 plainness config (Puts (LogsInto link packets) ∷ past) = given config (LogsInto link packets) past (plainness config past).1
 plainness config (Puts (Sends link purpose) ∷ past) = given config (Sends link purpose) past (plainness config past).1
+plainness config (Puts (Forgets link id) ∷ past) = given config (Forgets link id) past (plainness config past).1
 plainness config (Puts (Drops link cause) ∷ past) = given config (Drops link cause) past (plainness config past).1
 
 -- what is owed is plain, but for the direct answer to the worker's
@@ -245,6 +262,7 @@ opened_plainly Routes others p = refl
 opened_plainly (Opens link server login) others p = absurd cc
 opened_plainly (LogsInto link packets) others p = refl
 opened_plainly (Sends link purpose) others p = refl
+opened_plainly (Forgets link id) others p = refl
 opened_plainly (Drops link cause) others p = refl
 opened_plainly (Closes reason) others p = refl
 
@@ -258,8 +276,9 @@ pub step_opens_none : {config : Config} {past : List Item} {item : Item} → Ste
 step_opens_none (pays {put = put} {others = others} o) plain = opened_plainly put others (rw o at plain)
 step_opens_none (asks o n p g w) plain = refl
 step_opens_none (prepares o n has f) plain = refl
-step_opens_none (plays o n has f s) plain = refl
-step_opens_none (sends o n p s g f d) plain = refl
+step_opens_none (forgets o n has f t) plain = refl
+step_opens_none (plays o n has f t s) plain = refl
+step_opens_none (sends o n p s g f t d i) plain = refl
 step_opens_none (floods o n p above) plain = refl
 step_opens_none (reads o n due) plain = due_opens_none due
 
@@ -272,8 +291,9 @@ pub step_unanswered : {config : Config} {past : List Item} {item : Item} → Ste
 step_unanswered (pays o) = refl
 step_unanswered (asks o n p g w) = refl
 step_unanswered (prepares o n has f) = refl
-step_unanswered (plays o n has f s) = refl
-step_unanswered (sends o n p s g f d) = refl
+step_unanswered (forgets o n has f t) = refl
+step_unanswered (plays o n has f t s) = refl
+step_unanswered (sends o n p s g f t d i) = refl
 step_unanswered (floods o n p above) = refl
 step_unanswered (reads o n due) = due_unanswered due
 
@@ -339,6 +359,7 @@ paid_open config (Tells number tell) others past o none a = clash none a
 paid_open config (Opens link server its) others past o none a = clash none a
 paid_open config (LogsInto link packets) others past o none a = clash none a
 paid_open config (Sends link purpose) others past o none a = clash none a
+paid_open config (Forgets link id) others past o none a = clash none a
 paid_open config (Drops link cause) others past o none a = clash none a
 paid_open config (Closes reason) others past o none a = clash none a
 
@@ -353,8 +374,9 @@ step_open : {config : Config} {past : List Item} {item : Item} → Step config p
 step_open {config} {past} (pays {put = put} {others = others} o) none some = paid_open config put others past o none some
 step_open (asks o n p g w) none some = (rw o refl, n)
 step_open (prepares o n has f) none some = clash none some
-step_open (plays o n has f s) none some = clash none some
-step_open (sends o n p s g f d) none some = clash none some
+step_open (forgets o n has f t) none some = clash none some
+step_open (plays o n has f t s) none some = clash none some
+step_open (sends o n p s g f t d i) none some = clash none some
 step_open (floods o n p above) none some = clash none some
 step_open (reads o n due) none some = due_open due none some
 

@@ -19,12 +19,13 @@ use Rattle.rws_link.specs.Handshake.{due, reaction}
 use Rattle.rws_link.specs.Stepping.{LinkState, LogsIn, Rests, Awaits, IsLost, Exchange, logged_in, reacted, read_by, replied, replied_by, step}
 use Rattle.rws_config.specs.declared.config.Config.{Config}
 use Rattle.rws_config.specs.declared.limits.TheConstants.{SERVER_PAYLOAD}
-use Rattle.rws_record.specs.Judging.{Context}
-use Rattle.rws_record.specs.declared.command.Command.{Command}
+use Rattle.rws_commands.specs.declared.judged.Situation.{Situation}
+use Rattle.rws_commands.specs.Statements.{Statements}
+use Rattle.rws_commands.specs.declared.command.Command.{Command}
 use Rattle.rws_record.specs.Item.{Item}
 use Rattle.rws_record.specs.Item.Item.{Floods}
-use Rattle.rws_record.specs.Values.{asking, awaited, exchange, fronted, held, link_held, linked, links, pending, unread, is_over}
-use Rattle.rws_record.specs.Rules.{next, coming, due_route, due_sends, due_flood, flood_limit, due_arrival, due_take, taking, ◌or◌, context}
+use Rattle.rws_record.specs.Values.{asking, awaited, exchange, fronted, held, link_held, linked, links, pending, statements, unread, is_over}
+use Rattle.rws_record.specs.Rules.{next, coming, due_route, due_sends, due_flood, flood_limit, due_arrival, due_take, taking, ◌or◌, situation}
 use Rattle.rws_record.proofs.StepLemmas.{neither, rests_with_nothing_due}
 
 -- No link has anything to say
@@ -91,12 +92,12 @@ quiet (IsLost cause) a = absurd cc
 
 -- Nothing is taken up
 
-no_take : (now : Context) (said : FrontStep) → taking now said ≡ None → said ≡ fronts.Idle
-no_take now fronts.Idle e = refl
-no_take now (fronts.Send packets) e = absurd cc
-no_take now (fronts.LoggedIn login) e = absurd cc
-no_take now (fronts.Command payload) e = absurd cc
-no_take now (fronts.End packets reason) e = absurd cc
+no_take : (now : Situation) (s : Statements) (said : FrontStep) → taking now s said ≡ None → said ≡ fronts.Idle
+no_take now s fronts.Idle e = refl
+no_take now s (fronts.Send packets) e = absurd cc
+no_take now s (fronts.LoggedIn login) e = absurd cc
+no_take now s (fronts.Command payload) e = absurd cc
+no_take now s (fronts.End packets reason) e = absurd cc
 
 no_flood : (config : Config) (past : List Item) (command : Command) → pending past ≡ Some command → due_flood config past ≡ None
     → length (held config past) ≤ flood_limit config
@@ -159,8 +160,8 @@ rested config past e a n =
       sent = all.0;
       room = λ command p. no_flood config past command p later.0;
       client = λ p.
-          let none : taking (context config past) (step_of config.accounts (fronted config past)).0 ≡ None = rw p at behind.1 in
-          no_take (context config past) (step_of config.accounts (fronted config past)).0 none;
+          let none : taking (situation config past) (statements config past) (step_of config.accounts (fronted config past)).0 ≡ None = rw p at behind.1 in
+          no_take (situation config past) (statements config past) (step_of config.accounts (fronted config past)).0 none;
       reply = λ link its has a. reply_of (linked link past) its (its_quiet link behind.0 has) a;
       asked = λ link has a. idles_of (linked link past) (its_quiet link behind.0 has) a;
     }

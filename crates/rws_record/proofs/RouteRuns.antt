@@ -28,7 +28,7 @@ use Rattle.rws_record.proofs.WorkedRuns.{Does, closes, does_in, drops, from_clie
 -- a read goes to a replica of the least load, on a link that is opened for it, and its reply to the client
 a_read_goes_to_a_replica : Does
     (Observed primary_first ∷ Begin 1 0 ∷
-    from_client 1 (codes "0500000019010000001b0000000353454c45435420622046524f4d20742057484552452069643d31") ∷ LinkReady 2 ∷
+    from_client 1 (codes "0500000005010000001b0000000353454c45435420622046524f4d20742057484552452069643d31") ∷ LinkReady 2 ∷
     on_link 2 (codes "010000010117000002036465660000000161000c2d000a000000fd000000000005000003fe0000020001000004fb05000005fe00000200") ∷
     End ∷ [])
     (takes_in primary_first ∷ to_client 1 (codes "18000001ff1704233038533031756e6b6e6f776e20636f6d6d616e64") ∷ routes 1 ∷

@@ -1,6 +1,6 @@
 -- How a legal record goes on: what its newest item says of the record below it.
 use Rattle.std.proofs.Common.{◌≡◌, ℕ, suc, ◌+◌, ◌<◌, Bool, true, false, List, [], ◌∷◌, length, refl, ap, subst, arith, inl, inr, Option, Some, None}
-use Rattle.std.specs.Prelude.{◌⊎◌, Contains, slice_get}
+use Rattle.std.specs.Prelude.{◌⊎◌, Contains}
 use Rattle.std.specs.Option.{option_map}
 use Rattle.std.proofs.lemmas.Bool.{cases_lt, eqb-true, lt-ltb, le-ltb}
 use Rattle.rws_wire.specs.declared.close_reason.CloseReason.{CloseReason}
@@ -13,14 +13,17 @@ use Rattle.rws_link.specs.declared.step.LinkStep.{LinkStep}
 use Rattle.rws_link.specs.declared.step.LinkStep.TheVariants as steps
 use Rattle.rws_link.specs.Stepping.{step}
 use Rattle.rws_config.specs.declared.config.Config.{Config}
-use Rattle.rws_record.specs.declared.command.Command.{Command}
-use Rattle.rws_record.specs.Item.{Item, Put}
+use Rattle.rws_commands.specs.declared.command.Command.{Command}
+use Rattle.rws_commands.specs.declared.history.HistoryEntry.{HistoryEntry}
+use Rattle.rws_commands.specs.Commands.{id_for}
+use Rattle.rws_commands.specs.Statements.{stale_on, unplayed}
+use Rattle.rws_record.specs.Item.{Item, Purpose, Put}
 use Rattle.rws_record.specs.Item.Item.{ClientBytes, LinkReady, LinkBytes, ClientGone, LinkLost, Ticks, Comes, Connects, Takes, Floods, Puts}
-use Rattle.rws_record.specs.Item.Put.{Routes, Sends}
+use Rattle.rws_record.specs.Item.Put.{Routes, Sends, Forgets}
 use Rattle.rws_record.specs.Item.Purpose.{Prepares, Asks, Plays}
-use Rattle.rws_record.specs.Judging.{judged}
-use Rattle.rws_record.specs.Values.{accepted, asking, cursor, fronted, goes_on, opens, held, links, linked, pending, routing, sent_on, is_over}
-use Rattle.rws_record.specs.Rules.{context, next, next_by, owed, due, due_route, due_on, due_sends, due_flood, flood_by, flood_limit, due_arrival, due_take, route_by, prepare_by, play_by, ask_by, is_free, is_link, coming, take_by, unless_asking, ◌or◌}
+use Rattle.rws_commands.specs.Judging.{judged}
+use Rattle.rws_record.specs.Values.{asking, asking_for, cursor, fronted, goes_on, opens, held, links, linked, pending, routing, sent_on, statements, is_over}
+use Rattle.rws_record.specs.Rules.{situation, next, next_by, owed, due, due_route, due_on, due_sends, due_flood, flood_by, flood_limit, due_arrival, due_take, route_by, prepare_by, play_by, ask_by, behind_stale, is_free, is_link, coming, take_by, unless_asking, ◌or◌}
 use Rattle.rws_record.proofs.LinkedLemmas.{Says, says}
 use Rattle.rws_record.specs.Record.{IsInput}
 
@@ -38,7 +41,7 @@ pub data Due (config : Config) (past : List Item) : Item → Type 0 where
   connects : {said : FrontStep} → pending past ≡ None → (step_of config.accounts (fronted config past)).0 ≡ said
       → IsConnecting said → Due config past (Connects said)
   takes : {payload : Payload} → pending past ≡ None → (step_of config.accounts (fronted config past)).0 ≡ fronts.Command payload
-      → Due config past (Takes (judged (context config past) payload.bytes payload.next) payload.next)
+      → Due config past (Takes (judged (situation config past) (statements config past) payload.bytes payload.next) payload.next)
 
 -- how a record goes on by a step of its own
 pub data Step (config : Config) (past : List Item) : Item → Type 0 where
@@ -47,13 +50,19 @@ pub data Step (config : Config) (past : List Item) : Item → Type 0 where
       → goes_on config past ≡ None → (routing config past).waits ≡ false → Step config past (Puts Routes)
   prepares : {link : ℕ} → owed config past ≡ [] → is_over past ≡ false → Contains (links past) link → is_free false link past ≡ true
       → Step config past (Puts (Sends link Prepares))
-  plays : {link : ℕ} {command : Command} → owed config past ≡ [] → is_over past ≡ false → Contains (links past) link
-      → is_free true link past ≡ true → slice_get (accepted past) (cursor link past) ≡ Some command
-      → Step config past (Puts (Sends link (Plays command)))
-  sends : {link : ℕ} {command : Command} → owed config past ≡ [] → is_over past ≡ false → pending past ≡ Some command
+  -- before an entry or the pending command goes on a link
+  forgets : {link id : ℕ} → owed config past ≡ [] → is_over past ≡ false → Contains (links past) link
+      → is_free true link past ≡ true → stale_on link (statements config past) ≡ Some id
+      → Step config past (Puts (Forgets link id))
+  plays : {link : ℕ} {entry : HistoryEntry} → owed config past ≡ [] → is_over past ≡ false → Contains (links past) link
+      → is_free true link past ≡ true → stale_on link (statements config past) ≡ None
+      → unplayed (cursor link past) (statements config past) ≡ Some entry
+      → Step config past (Puts (Sends link (Plays entry)))
+  sends : {link : ℕ} {command : Command} {id : Option ℕ} → owed config past ≡ [] → is_over past ≡ false → pending past ≡ Some command
       → sent_on past ≡ None → goes_on config past ≡ Some link → is_free true link past ≡ true
-      → slice_get (accepted past) (cursor link past) ≡ None
-      → Step config past (Puts (Sends link (Asks command)))
+      → stale_on link (statements config past) ≡ None → unplayed (cursor link past) (statements config past) ≡ None
+      → id_for link command.body (statements config past).table.links ≡ id
+      → Step config past (Puts (Sends link (Asks command id)))
   floods : {command : Command} → owed config past ≡ [] → is_over past ≡ false → pending past ≡ Some command
       → flood_limit config < length (held config past) → Step config past (Floods (flood_limit config + 1))
   reads : {item : Item} → owed config past ≡ [] → is_over past ≡ false → Due config past item → Step config past item
@@ -92,47 +101,56 @@ module _ (config : Config) (past : List Item) (item : Item) where
       let same : Puts (Sends link Prepares) ≡ item = cc in subst (Step config past) same (prepares o n has f)
   of_prepare link false o n has f e = absurd cc
 
-  of_play : (link : ℕ) (free : Bool) (entry : Option Command) → owed config past ≡ [] → is_over past ≡ false → Contains (links past) link
-      → is_free true link past ≡ free → slice_get (accepted past) (cursor link past) ≡ entry → play_by free link entry ≡ Some item
+  of_play : (link : ℕ) (free : Bool) (stale : Option ℕ) (entry : Option HistoryEntry) → owed config past ≡ [] → is_over past ≡ false
+      → Contains (links past) link → is_free true link past ≡ free → stale_on link (statements config past) ≡ stale
+      → unplayed (cursor link past) (statements config past) ≡ entry → play_by free link stale entry ≡ Some item
       → Step config past item
-  of_play link true (Some command) o n has f s e =
-      let same : Puts (Sends link (Plays command)) ≡ item = cc in subst (Step config past) same (plays o n has f s)
-  of_play link true None o n has f s e = absurd cc
-  of_play link false entry o n has f s e = absurd cc
+  of_play link true (Some id) (Some entry) o n has f t s e =
+      let same : Puts (Forgets link id) ≡ item = cc in subst (Step config past) same (forgets o n has f t)
+  of_play link true None (Some entry) o n has f t s e =
+      let same : Puts (Sends link (Plays entry)) ≡ item = cc in subst (Step config past) same (plays o n has f t s)
+  of_play link true stale None o n has f t s e = absurd cc
+  of_play link false stale entry o n has f t s e = absurd cc
 
-  played_all : (link : ℕ) (entry : Option Command) → play_by true link entry ≡ None → entry ≡ None
-  played_all link None e = refl
-  played_all link (Some command) e = absurd cc
+  played_all : (link : ℕ) (stale : Option ℕ) (entry : Option HistoryEntry) → play_by true link stale entry ≡ None → entry ≡ None
+  played_all link stale None e = refl
+  played_all link stale (Some entry) e = absurd cc
 
   goes_there : (link : ℕ) (goes : Option ℕ) → is_link link goes ≡ true → goes ≡ Some link
   goes_there link None e = absurd cc
   goes_there link (Some other) e = ap Some (eqb-true other link e)
 
-  of_ask : (link : ℕ) (free goes : Bool) (command : Option Command) (sent : Option ℕ) → owed config past ≡ [] → is_over past ≡ false
-      → is_free true link past ≡ free → is_link link (goes_on config past) ≡ goes → pending past ≡ command → sent_on past ≡ sent
-      → play_by free link (slice_get (accepted past) (cursor link past)) ≡ None → ask_by free link goes command sent ≡ Some item → Step config past item
-  of_ask link true true (Some command) None o n f g p s none e =
-      let same : Puts (Sends link (Asks command)) ≡ item = cc in
-      subst (Step config past) same (sends o n p s (goes_there link (goes_on config past) g) f
-      (played_all link (slice_get (accepted past) (cursor link past)) none))
-  of_ask link false goes command sent o n f g p s none e = absurd cc
-  of_ask link true false command sent o n f g p s none e = absurd cc
-  of_ask link true true None sent o n f g p s none e = absurd cc
-  of_ask link true true (Some command) (Some on) o n f g p s none e = absurd cc
+  of_ask : (link : ℕ) (free goes : Bool) (stale : Option ℕ) (command : Option Command) (sent : Option ℕ) → owed config past ≡ []
+      → is_over past ≡ false → Contains (links past) link → is_free true link past ≡ free → is_link link (goes_on config past) ≡ goes
+      → stale_on link (statements config past) ≡ stale → pending past ≡ command → sent_on past ≡ sent
+      → play_by free link stale (unplayed (cursor link past) (statements config past)) ≡ None
+      → ask_by free link stale goes (asking_for command link (statements config past).table.links) sent ≡ Some item → Step config past item
+  of_ask link true true (Some id) (Some command) None o n has f g t p s none e =
+      let same : Puts (Forgets link id) ≡ item = cc in subst (Step config past) same (forgets o n has f t)
+  of_ask link true true None (Some command) None o n has f g t p s none e =
+      let same : Puts (Sends link (Asks command (id_for link command.body (statements config past).table.links))) ≡ item = cc in
+      subst (Step config past) same (sends o n p s (goes_there link (goes_on config past) g) f t
+      (played_all link None (unplayed (cursor link past) (statements config past)) none) refl)
+  of_ask link false goes stale command sent o n has f g t p s none e = absurd cc
+  of_ask link true false stale command sent o n has f g t p s none e = absurd cc
+  of_ask link true true stale None sent o n has f g t p s none e = absurd cc
+  of_ask link true true stale (Some command) (Some on) o n has f g t p s none e = absurd cc
 
   of_due_on : (link : ℕ) → owed config past ≡ [] → is_over past ≡ false → Contains (links past) link
       → due_on config link past ≡ Some item → Step config past item
   of_due_on link o n has e =
-      elim (either (prepare_by (is_free false link past) link) (play_by (is_free true link past) link (slice_get (accepted past) (cursor link past))
-      or ask_by (is_free true link past) link (is_link link (goes_on config past)) (pending past) (sent_on past)) item e) [
+      let play = play_by (is_free true link past) link (stale_on link (statements config past)) (unplayed (cursor link past) (statements config past)) in
+      let ask = ask_by (is_free true link past) link (stale_on link (statements config past)) (is_link link (goes_on config past))
+      (asking_for (pending past) link (statements config past).table.links) (sent_on past) in
+      elim (either (prepare_by (is_free false link past) link) (play or ask) item e) [
         | inl prepare ↦ of_prepare link (is_free false link past) o n has refl prepare
-        | inr e ↦ elim (first_or (play_by (is_free true link past) link (slice_get (accepted past) (cursor link past)))
-            (ask_by (is_free true link past) link (is_link link (goes_on config past)) (pending past) (sent_on past)) item e) [
-              | inl play ↦ of_play link (is_free true link past) (slice_get (accepted past) (cursor link past)) o n has refl refl play
-              | inr ask ↦
-                  of_ask link (is_free true link past) (is_link link (goes_on config past)) (pending past) (sent_on past) o n refl refl refl refl
-                  ask.0 ask.1
-            ]
+        | inr e ↦ elim (first_or play ask item e) [
+          | inl play ↦ of_play link (is_free true link past) (stale_on link (statements config past))
+              (unplayed (cursor link past) (statements config past)) o n has refl refl refl play
+          | inr ask ↦
+              of_ask link (is_free true link past) (is_link link (goes_on config past)) (stale_on link (statements config past)) (pending past)
+              (sent_on past) o n has refl refl refl refl refl ask.0 ask.1
+        ]
       ]
 
   -- a list of links of which each is one of the session's
@@ -177,7 +195,7 @@ module _ (config : Config) (past : List Item) (item : Item) where
       ]
 
   of_take : (command : Option Command) (said : FrontStep) → pending past ≡ command
-      → (step_of config.accounts (fronted config past)).0 ≡ said → take_by (context config past) command said ≡ Some item → Due config past item
+      → (step_of config.accounts (fronted config past)).0 ≡ said → take_by (situation config past) (statements config past) command said ≡ Some item → Due config past item
   of_take (Some command) said p f e = absurd cc
   of_take None fronts.Idle p f e = absurd cc
   of_take None (fronts.Send packets) p f e =
@@ -185,7 +203,7 @@ module _ (config : Config) (past : List Item) (item : Item) where
   of_take None (fronts.LoggedIn login) p f e =
       let same : Connects (fronts.LoggedIn login) ≡ item = cc in as_due same (connects p f lets_in)
   of_take None (fronts.Command payload) p f e =
-      let same : Takes (judged (context config past) payload.bytes payload.next) payload.next ≡ item = cc in as_due same (takes p f)
+      let same : Takes (judged (situation config past) (statements config past) payload.bytes payload.next) payload.next ≡ item = cc in as_due same (takes p f)
   of_take None (fronts.End packets reason) p f e =
       let same : Connects (fronts.End packets reason) ≡ item = cc in as_due same (connects p f ends_it)
 

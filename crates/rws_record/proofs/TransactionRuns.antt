@@ -1,5 +1,5 @@
 -- Runs in which transactions are open, computed by the definition.
-use Rattle.std.proofs.Common.{◌≡◌, ℕ, List, true, false, [], ◌∷◌, refl, Some, codes}
+use Rattle.std.proofs.Common.{◌≡◌, ℕ, List, true, false, [], ◌∷◌, refl, None, Some, codes}
 use Rattle.rws_wire.specs.declared.close_reason.CloseReason.TheVariants.{NotReplayable, OutcomeUnknown, SessionState}
 use Rattle.rws_wire.specs.declared.drop_cause.DropCause.TheVariants.{Unasked, End as AtEnd}
 use Rattle.rws_wire.specs.Lenenc.{lenenc, lenenc_bytes}
@@ -30,10 +30,11 @@ use Rattle.rws_pool.specs.declared.words.State.TheVariants.{Down, Master, Slave}
 use Rattle.rws_select.specs.declared.selector.Load.{Load}
 use Rattle.rws_route.specs.declared.destination.Target.TheVariants.{Primary}
 use Rattle.rws_config.specs.BuiltIn.{built_in}
-use Rattle.rws_record.specs.declared.command.Command.{Command}
+use Rattle.rws_commands.specs.declared.command.Body.TheVariants.{Payload}
+use Rattle.rws_commands.specs.declared.command.Command.{Command}
 use Rattle.rws_record.specs.Item.{Item, Recording}
 use Rattle.rws_record.specs.Item.Item.{Began, Routed, Takes, Puts}
-use Rattle.rws_record.specs.Item.Judged.{Serves}
+use Rattle.rws_commands.specs.declared.judged.Judged.TheVariants.{Serves}
 use Rattle.rws_record.specs.Item.Put.{Tells}
 use Rattle.rws_record.specs.Item.Tell.{Passes}
 use Rattle.rws_record.specs.Item.Recording.{Nothing, Accepts}
@@ -223,10 +224,10 @@ unfolding lenenc lenenc_bytes full_packet spelling number_behind payload_behind 
 a_kept_transaction = does_in 16 refl refl
 
 -- The log of a transaction: the commands that were answered in it, from the one that began it, each with its reply, and an error is one.
--- Its mark is how many entries the history had when it began. What a session took up and what it told its client is enough of a record.
+-- Its mark is the serial of the next entry when it began. What a session took up and what it told its client is enough of a record.
 
 abbrev asking_for : List ℕ → Command
-asking_for digits = record { payload = hex digits; kind = QueryReply; number = 1 }
+asking_for digits = record { body = Payload (hex digits); kind = QueryReply; number = 1 }
 
 abbrev use_db1 : Command
 use_db1 = asking_for (codes "0375736520646231")
@@ -248,7 +249,7 @@ dead_lock = hex (codes "ff510423485930303064656164206c6f636b")
 
 abbrev answers : Command → List ℕ → Outcome → Recording → List Item → List Item
 answers command payload outcome recording past =
-    Puts (Tells 1 (Passes 1 command payload (Some outcome) recording)) ∷ past
+    Puts (Tells 1 (Passes 1 command payload (Some (record { outcome = outcome; named = None })) recording)) ∷ past
 
 abbrev takes : Command → List Item → List Item
 takes command past = Takes (Serves command) 1 ∷ past

@@ -37,7 +37,7 @@ use Rattle.rws_record.specs.Record.{CanBeMade, want_number}
 use Rattle.rws_record.specs.Run.{Entry, IsRun, IsRunOver, hearer, record_of, next_entry, events_of, done_in}
 use Rattle.rws_record.specs.Run.Entry.{Came, Did}
 use Rattle.rws_record.specs.Run.IsRun.{starts, came, goes_on, starves}
-use Rattle.rws_record.specs.declared.command.Command.{Command}
+use Rattle.rws_commands.specs.declared.command.Command.{Command}
 use Rattle.rws_record.specs.Rules.{flood_by, flood_limit}
 use Rattle.rws_record.proofs.EntryLemmas.{of_next_entry, same_events}
 

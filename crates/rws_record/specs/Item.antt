@@ -10,17 +10,20 @@ use Rattle.rws_link.specs.declared.step.LinkStep.{LinkStep}
 use Rattle.rws_pool.specs.declared.words.PoolWords.{PoolWords}
 use Rattle.rws_select.specs.declared.selector.Load.{Load}
 use Rattle.rws_route.specs.declared.destination.Target.{Target}
-use Rattle.rws_record.specs.declared.command.Command.{Command}
-use Rattle.rws_record.specs.declared.proxy_error.ProxyError.{ProxyError}
+use Rattle.rws_commands.specs.declared.command.Command.{Command}
+pub use Rattle.rws_commands.specs.declared.ending.Ending.{Ending}
+use Rattle.rws_commands.specs.declared.history.HistoryEntry.{HistoryEntry}
+use Rattle.rws_commands.specs.declared.judged.Judged.{Judged}
+use Rattle.rws_commands.specs.declared.proxy_error.ProxyError.{ProxyError}
 
 -- why something goes to a server that it is to answer
 pub data Purpose : Type 0 where
   -- the server is to tell the GTIDs of commits from now on: the first command on a link, behind its login
   Prepares : Purpose
-  -- the client asked for it
-  Asks : Command → Purpose
+  -- the client asked for it; an execute is of the statement that has this id at the link's server
+  Asks : Command → (id : Option ℕ) → Purpose
   -- it set the session on another link before: an entry of the session's history
-  Plays : Command → Purpose
+  Plays : HistoryEntry → Purpose
 
 -- what the end of a reply means for the session's history
 pub data Recording : Type 0 where
@@ -34,7 +37,7 @@ pub data Recording : Type 0 where
 pub data Tell : Type 0 where
   -- a payload of the reply that this link gives to the command, in the client's form; the last one with how the server's
   -- reply ended and what that means for the history
-  Passes : (link : ℕ) → Command → (payload : List ℕ) → Option Outcome → Recording → Tell
+  Passes : (link : ℕ) → Command → (payload : List ℕ) → Option Ending → Recording → Tell
   -- the proxy's own OK
   Owns : (status : ℕ) → Tell
   -- the proxy's own error
@@ -54,17 +57,12 @@ pub data Put : Type 0 where
   LogsInto : (link : ℕ) → (packets : List ℕ) → Put
   -- to a server, a command
   Sends : (link : ℕ) → Purpose → Put
+  -- to a server, that it is to close a statement, which it has under this id
+  Forgets : (link id : ℕ) → Put
   -- a link is given up
   Drops : (link : ℕ) → DropCause → Put
   -- the session is closed
   Closes : CloseReason → Put
-
--- what a command of the client is taken for
-pub data Judged : Type 0 where
-  Leaves : Judged
-  Pings : Judged
-  IsRefused : ProxyError → Judged
-  Serves : Command → Judged
 
 pub data Item : Type 0 where
   -- from outside: a client connects, and is to be greeted with this scramble; it is turned away, since there are as many

@@ -1,11 +1,8 @@
 pub mod Item
-pub mod Requests
-pub mod Judging
 pub mod Values
 pub mod Log
 pub mod Rules
 pub mod Record
-pub mod Errors
 pub mod Outputs
 pub mod Run
 pub mod Laws

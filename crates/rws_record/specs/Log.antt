@@ -3,12 +3,13 @@ use Rattle.std.specs.Prelude.{ℕ, ◌+◌, Bool, true, false, List, [], ◌∷�
 use Rattle.rws_trx.specs.declared.state.Course.{Course}
 use Rattle.rws_trx.specs.OnLinks.{by_course, course_of}
 use Rattle.rws_config.specs.declared.config.Config.{Config}
-use Rattle.rws_record.specs.declared.command.Command.{Command}
+use Rattle.rws_commands.specs.declared.command.Command.{Command}
+use Rattle.rws_commands.specs.Commands.{bytes_of}
 use Rattle.rws_record.specs.Item.{Item}
 use Rattle.rws_record.specs.Item.Item.{Puts}
 use Rattle.rws_record.specs.Item.Put.{Tells}
 use Rattle.rws_record.specs.Item.Tell.{Passes}
-use Rattle.rws_record.specs.Values.{accepted, answer_to, class_by_pending, kept_on, or_link, pending, routing, speaks, told, transaction}
+use Rattle.rws_record.specs.Values.{answer_to, class_by_pending, kept_on, or_link, pending, routing, serials, speaks, told, transaction}
 
 pub record Logged : Type 0 where
   pub command : Command
@@ -23,23 +24,23 @@ if_speaks false course goes_on begins none before = before
 -- the commands of the open transaction, from the one that began it
 abbrev pub log : Config → List Item → List Logged
 log config [] = []
-log config (Puts (Tells number (Passes link command payload (Some outcome) recording)) ∷ past) =
+log config (Puts (Tells number (Passes link command payload (Some ending) recording)) ∷ past) =
     let t = transaction config past in
     let last : Logged = record { command = command; reply = told past ++ payload ∷ [] } in
     if_speaks (speaks (or_link (kept_on past) t.link) link (class_by_pending (pending past)) (routing config past))
-    (course_of (answer_to (pending past) link outcome) t) (log config past ++ last ∷ []) (last ∷ []) [] (log config past)
+    (course_of (answer_to (pending past) link ending.outcome t.state) t) (log config past ++ last ∷ []) (last ∷ []) [] (log config past)
 log config (_ ∷ past) = log config past
 
--- the mark: how many entries the session's history had when the command was sent that began it
+-- the mark: the serial of the next entry of the history when the command was sent that began it
 abbrev pub mark : Config → List Item → ℕ
 mark config [] = 0
-mark config (Puts (Tells number (Passes link command payload (Some outcome) recording)) ∷ past) =
+mark config (Puts (Tells number (Passes link command payload (Some ending) recording)) ∷ past) =
     let t = transaction config past in
     if_speaks (speaks (or_link (kept_on past) t.link) link (class_by_pending (pending past)) (routing config past))
-    (course_of (answer_to (pending past) link outcome) t) (mark config past) (length (accepted past)) 0 (mark config past)
+    (course_of (answer_to (pending past) link ending.outcome t.state) t) (mark config past) (serials past) 0 (mark config past)
 mark config (_ ∷ past) = mark config past
 
 -- how many bytes the commands of a log have
 abbrev pub total : List Logged → ℕ
 total [] = 0
-total (first ∷ others) = length first.command.payload + total others
+total (first ∷ others) = bytes_of first.command.body + total others

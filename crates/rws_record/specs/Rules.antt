@@ -9,6 +9,7 @@ use Rattle.rws_wire.specs.declared.close_reason.CloseReason.TheVariants as reaso
 use Rattle.rws_wire.specs.declared.drop_cause.DropCause.{DropCause}
 use Rattle.rws_wire.specs.declared.drop_cause.DropCause.TheVariants as causes
 use Rattle.rws_wire.specs.declared.drop_cause.DropCause.TheVariants.{Unasked, End, Kept, Replay}
+use Rattle.rws_msgs.specs.declared.prepare_ok.PrepareOk.{PrepareOk}
 use Rattle.rws_native.specs.declared.login.Login.{Login}
 use Rattle.rws_reply.specs.declared.kind.Outcome.{Outcome}
 use Rattle.rws_reply.specs.declared.kind.Outcome.TheVariants.{Done, Failed}
@@ -27,7 +28,7 @@ use Rattle.rws_link.specs.Stepping.{LinkState, LogsIn, Rests, Awaits, IsLost, st
 use Rattle.rws_trx.specs.declared.state.Open.{Open}
 use Rattle.rws_trx.specs.declared.state.Open.TheVariants.{Nothing as Unopened, ReadWrite, ReadOnly}
 use Rattle.rws_trx.specs.declared.state.TrxState.{TrxState}
-use Rattle.rws_trx.specs.Transactions.{leaves_unknown}
+use Rattle.rws_trx.specs.Transactions.{is_open, leaves_unknown}
 use Rattle.rws_trx.specs.OnLinks.{status_of}
 use Rattle.rws_pool.specs.declared.words.PoolWords.{PoolWords}
 use Rattle.rws_select.specs.declared.selector.Load.{Load}
@@ -37,17 +38,23 @@ use Rattle.rws_route.specs.Targets.{target_of}
 use Rattle.rws_routing.specs.Routings.{finds_late, server_in}
 use Rattle.rws_config.specs.declared.config.Config.{Config}
 use Rattle.rws_config.specs.declared.limits.TheConstants.{FLOOD_ROOM}
-use Rattle.rws_record.specs.declared.command.Command.{Command}
-use Rattle.rws_record.specs.declared.proxy_error.ProxyError.TheVariants.{TooManyConnections, CommandTooLarge, NoPrimary, OutOfMemory}
-use Rattle.rws_record.specs.Item.{Item, Purpose, Judged, Put, Recording}
+use Rattle.rws_handles.specs.LinkIds.{Ids}
+use Rattle.rws_commands.specs.declared.command.Command.{Command}
+use Rattle.rws_commands.specs.declared.history.HistoryEntry.{HistoryEntry}
+use Rattle.rws_commands.specs.declared.judged.Judged.{Judged}
+use Rattle.rws_commands.specs.declared.judged.Judged.TheVariants.{Leaves, IsOwn, IsRefused, IsSilent, HasTooMuch, Serves}
+use Rattle.rws_commands.specs.declared.judged.Situation.{Situation}
+use Rattle.rws_commands.specs.declared.proxy_error.ProxyError.TheVariants.{TooManyConnections, CommandTooLarge, NoPrimary, OutOfMemory}
+use Rattle.rws_commands.specs.Commands.{class_of_command, is_session, keeps}
+use Rattle.rws_commands.specs.Judging.{judged}
+use Rattle.rws_commands.specs.Statements.{Statements, is_full, is_otherwise, next_handle, stale_on, swept_if, unplayed}
+use Rattle.rws_record.specs.Item.{Ending, Item, Purpose, Put, Recording}
 use Rattle.rws_record.specs.Item.Item.{Accepted, TurnsAway, Began, ClientBytes, LinkReady, LinkBytes, ClientGone, LinkLost, Ticks, Routed, Comes, Connects, Takes, Floods, Puts, Starves}
-use Rattle.rws_record.specs.Item.Judged.{Leaves, Pings, IsRefused, Serves}
-use Rattle.rws_record.specs.Item.Put.{Hands, Tells, Routes, Opens, LogsInto, Sends, Drops, Closes}
+use Rattle.rws_record.specs.Item.Put.{Hands, Tells, Routes, Opens, LogsInto, Sends, Forgets, Drops, Closes}
 use Rattle.rws_record.specs.Item.Tell.{Passes, Owns, Refuses}
 use Rattle.rws_record.specs.Item.Purpose.{Prepares, Asks, Plays}
 use Rattle.rws_record.specs.Item.Recording.{Nothing, Accepts, Keeps}
-use Rattle.rws_record.specs.Judging.{Context, judged}
-use Rattle.rws_record.specs.Values.{accepted, banned, class_by_pending, cursor, is_session, class_of_command, fronted, goes_on, held, keeps, login_of, links, link_to, contains, without, kept_on, linked, is_up, asked_on, now, prepared_handle, pending, routing, sent_on, told_from, reply_number, transaction, transaction_bytes, asking, is_over}
+use Rattle.rws_record.specs.Values.{asking_for, banned, class_by_pending, cursor, ends_transaction, fronted, goes_on, held, login_of, links, link_to, contains, without, kept_on, linked, is_up, asked_on, named_in, named_on, now, pending, routing, sent_on, statements, told_from, reply_number, transaction, transaction_bytes, asking, is_over}
 
 abbrev pub is_link : ℕ → Option ℕ → Bool
 is_link link (Some other) = other == link
@@ -148,8 +155,10 @@ farewells past = map (λ link. Drops link End) (links past)
 
 abbrev pub after_command : Judged → ℕ → (status : ℕ) → List Put
 after_command Leaves number status = Closes reasons.Quit ∷ []
-after_command Pings number status = Tells number (Owns status) ∷ []
+after_command IsOwn number status = Tells number (Owns status) ∷ []
 after_command (IsRefused error) number status = Tells number (Refuses error) ∷ []
+after_command IsSilent number status = []
+after_command (HasTooMuch bytes) number status = Tells number (Refuses CommandTooLarge) ∷ Closes (reasons.TooLarge bytes) ∷ []
 after_command (Serves command) number status = []
 
 -- What came of the client but for its commands: where its packets can't be read on, or it isn't let in, the session is closed.
@@ -201,14 +210,16 @@ unasked link false = []
 
 -- A payload of the reply to the client's command goes to the client in its form; behind the last one a further byte costs
 -- the link.
-abbrev pub after_answer : ℕ → Command → (form : List ℕ) → Progress → (behind : Bool) → (number : ℕ) → (Outcome → Recording) → List Put
-after_answer link command form More behind number recording = Tells number (Passes link command form None Nothing) ∷ []
-after_answer link command form (Ends outcome) behind number recording =
-    Tells number (Passes link command form (Some outcome) (recording outcome)) ∷ unasked link behind
+abbrev pub after_answer : ℕ → Command → (form : List ℕ) → (named : Option PrepareOk) → Progress → (behind : Bool) → (number : ℕ) → (Outcome → Recording) → List Put
+after_answer link command form named More behind number recording = Tells number (Passes link command form None Nothing) ∷ []
+after_answer link command form named (Ends outcome) behind number recording =
+    Tells number (Passes link command form (Some (record { outcome = outcome; named = named })) (recording outcome)) ∷ unasked link behind
 
--- the history has no room for an entry
-abbrev pub is_full : Config → List Item → Bool
-is_full config past = not (nat_lt (length (accepted past)) config.history_limit)
+-- The history has no room for an entry behind a reply on this link, which ended so: the statements that were closed in a transaction leave
+-- with it, and their entries too.
+abbrev pub is_full_behind : Config → ℕ → Outcome → List Item → Bool
+is_full_behind config link outcome past =
+    is_full config.history_limit (swept_if (ends_transaction config link outcome past) (statements config past))
 
 -- A command that sets the session, without an error, is added to the history; where that is full, the session is kept.
 abbrev pub recording_by : (sets kept full : Bool) → Outcome → Recording
@@ -216,19 +227,23 @@ recording_by true false false (Done status) = Accepts
 recording_by true false true (Done status) = Keeps
 recording_by _ _ _ _ = Nothing
 
-abbrev pub recording_of : Config → List Item → Outcome → Recording
-recording_of config past outcome =
-    recording_by (is_session (class_by_pending (pending past))) (is_some (kept_on past)) (is_full config past) outcome
+abbrev pub recording_of : Config → ℕ → List Item → Outcome → Recording
+recording_of config link past outcome =
+    recording_by (is_session (class_by_pending (pending past))) (is_some (kept_on past)) (is_full_behind config link outcome past) outcome
+
+abbrev pub differing : ℕ → (otherwise behind : Bool) → List Put
+differing link true behind = Drops link causes.SessionDiffers ∷ []
+differing link false behind = unasked link behind
 
 -- an entry of the history was played, or its server answers it otherwise
-abbrev pub after_played : ℕ → Progress → (behind : Bool) → List Put
-after_played link More behind = []
-after_played link (Ends (Done status)) behind = unasked link behind
-after_played link (Ends (Failed code)) behind = Drops link causes.SessionDiffers ∷ []
+abbrev pub after_played : ℕ → HistoryEntry → (named : Option PrepareOk) → Progress → (behind : Bool) → List Put
+after_played link entry named More behind = []
+after_played link entry named (Ends (Done status)) behind = differing link (is_otherwise entry.statement named) behind
+after_played link entry named (Ends (Failed code)) behind = Drops link causes.SessionDiffers ∷ []
 
--- the form in which the client gets a payload of this role
-abbrev pub form_of : Role → List ℕ → List ℕ
-form_of role payload = client_form role prepared_handle payload
+-- the form in which the client gets a payload of this role, which knows the statement that is prepared next by this handle
+abbrev pub form_of : (handle : ℕ) → Role → List ℕ → List ℕ
+form_of handle role payload = client_form role handle payload
 
 -- A link is prepared, unless its server refuses that; behind the last payload a further byte costs the link here too.
 abbrev pub after_preparing : ℕ → Progress → (behind : Bool) → List Put
@@ -236,12 +251,13 @@ after_preparing link More behind = []
 after_preparing link (Ends (Done status)) behind = unasked link behind
 after_preparing link (Ends (Failed code)) behind = Drops link (causes.Login code) ∷ []
 
-abbrev pub after_part : Config → ℕ → Option Purpose → (form : List ℕ) → Progress → (behind : Bool) → (number : ℕ) → List Item → List Put
-after_part config link (Some (Asks command)) form progress behind number past =
-    after_answer link command form progress behind number (λ outcome. recording_of config past outcome)
-after_part config link (Some (Plays command)) form progress behind number past = after_played link progress behind
-after_part config link (Some Prepares) form progress behind number past = after_preparing link progress behind
-after_part config link None form progress behind number past = []
+-- a payload of the reply to what was sent for this purpose, which told of this statement so far
+abbrev pub after_part : Config → ℕ → Option Purpose → (form : List ℕ) → (named : Option PrepareOk) → Progress → (behind : Bool) → (number : ℕ) → List Item → List Put
+after_part config link (Some (Asks command id)) form named progress behind number past =
+    after_answer link command form named progress behind number (λ outcome. recording_of config link past outcome)
+after_part config link (Some (Plays entry)) form named progress behind number past = after_played link entry named progress behind
+after_part config link (Some Prepares) form named progress behind number past = after_preparing link progress behind
+after_part config link None form named progress behind number past = []
 
 -- why a link that is lost is given up
 abbrev pub drop_cause : LinkCause → DropCause
@@ -255,7 +271,8 @@ drop_cause (losses.Login code) = causes.Login code
 -- what came of a link
 abbrev pub after_coming : Config → ℕ → LinkStep → Option Purpose → (number : ℕ) → List Item → List Put
 after_coming config link (steps.Part payload role progress next behind) purpose number past =
-    after_part config link purpose (form_of role payload) progress behind number past
+    after_part config link purpose (form_of (next_handle (statements config past)) role payload) (named_in role payload (named_on link past))
+    progress behind number past
 after_coming config link (steps.Lost cause) purpose number past = Drops link (drop_cause cause) ∷ []
 after_coming config link (steps.Send packets) purpose number past = LogsInto link packets ∷ []
 after_coming config link steps.LoggedIn purpose number past = []
@@ -299,9 +316,9 @@ after_keeping false link kept links = []
 -- what follows directly on something that was given out
 abbrev pub follow : Config → Put → List Item → List Put
 follow config (Drops link cause) past = if is_loss cause then after_loss config link past else []
-follow config (Sends link (Asks command)) past =
+follow config (Sends link (Asks command id)) past =
     after_keeping (keeps (class_of_command command)) link (kept_on past) (links past)
-follow config (Tells number (Passes link command payload (Some outcome) Keeps)) past = after_keeping true link (kept_on past) (links past)
+follow config (Tells number (Passes link command payload (Some ending) Keeps)) past = after_keeping true link (kept_on past) (links past)
 follow config _ past = []
 
 abbrev pub owed : Config → List Item → List Put
@@ -345,21 +362,27 @@ abbrev pub prepare_by : (free : Bool) → ℕ → Option Item
 prepare_by true link = Some (Puts (Sends link Prepares))
 prepare_by false link = None
 
+-- what goes on a link that is free for it; before it the link's server is told to close the statements that have left
+abbrev pub behind_stale : ℕ → (stale : Option ℕ) → Purpose → Item
+behind_stale link (Some id) purpose = Puts (Forgets link id)
+behind_stale link None purpose = Puts (Sends link purpose)
+
 -- the next entry of the history, on a link that has some to play
-abbrev pub play_by : (free : Bool) → ℕ → Option Command → Option Item
-play_by true link (Some command) = Some (Puts (Sends link (Plays command)))
-play_by _ link _ = None
+abbrev pub play_by : (free : Bool) → ℕ → (stale : Option ℕ) → Option HistoryEntry → Option Item
+play_by true link stale (Some entry) = Some (behind_stale link stale (Plays entry))
+play_by _ link stale _ = None
 
 -- the pending command goes on its link as soon as that is prepared and free, where it wasn't sent yet
-abbrev pub ask_by : (free : Bool) → ℕ → (goes : Bool) → Option Command → (sent : Option ℕ) → Option Item
-ask_by true link true (Some command) None = Some (Puts (Sends link (Asks command)))
-ask_by _ link _ _ _ = None
+abbrev pub ask_by : (free : Bool) → ℕ → (stale : Option ℕ) → (goes : Bool) → Option Purpose → (sent : Option ℕ) → Option Item
+ask_by true link stale true (Some purpose) None = Some (behind_stale link stale purpose)
+ask_by _ link stale _ _ _ = None
 
 abbrev pub due_on : Config → ℕ → List Item → Option Item
 due_on config link past =
+    let s = statements config past in
     prepare_by (is_free false link past) link
-    or (play_by (is_free true link past) link (slice_get (accepted past) (cursor link past))
-    or ask_by (is_free true link past) link (is_link link (goes_on config past)) (pending past) (sent_on past))
+    or (play_by (is_free true link past) link (stale_on link s) (unplayed (cursor link past) s)
+    or ask_by (is_free true link past) link (stale_on link s) (is_link link (goes_on config past)) (asking_for (pending past) link s.table.links) (sent_on past))
 
 -- in order of number
 abbrev pub due_sends : Config → List ℕ → List Item → Option Item
@@ -391,25 +414,30 @@ abbrev pub due_arrival : List ℕ → List Item → Option Item
 due_arrival [] past = None
 due_arrival (link ∷ others) past = coming link (step (linked link past)).answer or due_arrival others past
 
--- what a command is judged by that comes now
-abbrev pub context : Config → List Item → Context
-context config past = record { read_only = is_read_only (transaction config past).state.opened; full = is_full config past }
+-- how the session stands where a command comes now
+abbrev pub situation : Config → List Item → Situation
+situation config past = record {
+  in_transaction = is_open (transaction config past).state;
+  read_only = is_read_only (transaction config past).state.opened;
+  history_limit = config.history_limit;
+  room = config.command_bytes;
+}
 
 -- what comes of the client
-abbrev pub taking : Context → FrontStep → Option Item
-taking now fronts.Idle = None
-taking now (fronts.Send packets) = Some (Connects (fronts.Send packets))
-taking now (fronts.LoggedIn login) = Some (Connects (fronts.LoggedIn login))
-taking now (fronts.Command payload) = Some (Takes (judged now payload.bytes payload.next) payload.next)
-taking now (fronts.End packets reason) = Some (Connects (fronts.End packets reason))
+abbrev pub taking : Situation → Statements → FrontStep → Option Item
+taking now s fronts.Idle = None
+taking now s (fronts.Send packets) = Some (Connects (fronts.Send packets))
+taking now s (fronts.LoggedIn login) = Some (Connects (fronts.LoggedIn login))
+taking now s (fronts.Command payload) = Some (Takes (judged now s payload.bytes payload.next) payload.next)
+taking now s (fronts.End packets reason) = Some (Connects (fronts.End packets reason))
 
 -- the client is read on once the command before is answered
-abbrev pub take_by : Context → Option Command → FrontStep → Option Item
-take_by now None said = taking now said
-take_by now (Some command) said = None
+abbrev pub take_by : Situation → Statements → Option Command → FrontStep → Option Item
+take_by now s None said = taking now s said
+take_by now s (Some command) said = None
 
 abbrev pub due_take : Config → List Item → Option Item
-due_take config past = take_by (context config past) (pending past) (step_of config.accounts (fronted config past)).0
+due_take config past = take_by (situation config past) (statements config past) (pending past) (step_of config.accounts (fronted config past)).0
 
 -- A command that was just taken up is routed and sent before the bytes behind it are counted, so one piece of bytes and two
 -- give the same.

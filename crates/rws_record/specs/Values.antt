@@ -1,15 +1,21 @@
 -- What a record says. Each value is read from the items alone, newest first, and is a function of its own; a value of a
 -- link takes the link's number.
-use Rattle.std.specs.Prelude.{ℕ, ◌+◌, Bool, true, false, not, ◌&&◌, ◌||◌, List, [], ◌∷◌, ◌++◌, filter, ◌==◌, Option, Some, None, codes, is_none, length, if◌then◌else◌}
+use Rattle.std.specs.Prelude.{ℕ, ◌+◌, Bool, true, false, not, ◌&&◌, ◌||◌, List, [], ◌∷◌, ◌++◌, filter, ◌==◌, Option, Some, None, Result, Ok, Err, codes, is_none, if◌then◌else◌}
 use Rattle.rws_wire.specs.Packets.{number_behind}
 use Rattle.rws_msgs.specs.declared.command.TheConstants.{COM_QUERY}
 use Rattle.rws_native.specs.declared.login.Login.{Login}
+use Rattle.rws_msgs.specs.declared.fault.MsgFault.{MsgFault}
+use Rattle.rws_msgs.specs.declared.prepare_ok.PrepareOk.{PrepareOk}
+use Rattle.rws_msgs.specs.PrepareOkLayout.{prepare_ok_at}
 use Rattle.rws_class.specs.declared.class.Class.{Class}
-use Rattle.rws_class.specs.declared.class.Class.TheVariants.{Session, AutocommitOn, AutocommitOff, Other}
+use Rattle.rws_class.specs.declared.class.Class.TheVariants.{Other}
 use Rattle.rws_trx.specs.declared.transaction.Answer.{Answer}
 use Rattle.rws_trx.specs.declared.transaction.Transaction.{Transaction}
-use Rattle.rws_trx.specs.Transactions.{begins_read_only}
-use Rattle.rws_trx.specs.OnLinks.{added, answered, no_transaction}
+use Rattle.rws_trx.specs.declared.state.Course.{Course}
+use Rattle.rws_trx.specs.declared.state.Course.TheVariants.{GoesOn, Begins, IsNone}
+use Rattle.rws_trx.specs.declared.state.TrxState.{TrxState}
+use Rattle.rws_trx.specs.Transactions.{begins_read_only, is_open}
+use Rattle.rws_trx.specs.OnLinks.{added, answered, course_of, no_transaction, status_of}
 use Rattle.rws_routing.specs.declared.routing.Routing.{Routing}
 use Rattle.rws_routing.specs.Routings.{goes_to_primary, is_at, lost, new_routing, routed, server_in, stopped, ticked, with_server}
 use Rattle.rws_reply.specs.declared.kind.Kind.{Kind}
@@ -17,6 +23,8 @@ use Rattle.rws_reply.specs.declared.kind.Kind.TheVariants.{Query as QueryReply}
 use Rattle.rws_reply.specs.declared.kind.Outcome.{Outcome}
 use Rattle.rws_reply.specs.declared.kind.Outcome.TheVariants.{Done, Failed}
 use Rattle.rws_reply.specs.declared.kind.Progress.TheVariants.{Whole as Ends}
+use Rattle.rws_reply.specs.declared.role.Role.{Role}
+use Rattle.rws_reply.specs.declared.role.Role.TheVariants.{Prepared}
 use Rattle.rws_front.specs.declared.phase.Phase.TheVariants.{Greets as IsToGreet, Commands}
 use Rattle.rws_front.specs.declared.step.FrontStep.{FrontStep}
 use Rattle.rws_front.specs.declared.step.FrontStep.TheVariants as fronts
@@ -25,15 +33,18 @@ use Rattle.rws_front.specs.Connection.{step_of}
 use Rattle.rws_link.specs.declared.step.LinkStep.{LinkStep}
 use Rattle.rws_link.specs.declared.step.LinkStep.TheVariants as steps
 use Rattle.rws_link.specs.Stepping.{LinkState, LogsIn, Rests, Awaits, IsLost, Exchange, fed, opened as opening, readied, sent, step}
+use Rattle.rws_handles.specs.LinkIds.{Ids}
 use Rattle.rws_config.specs.declared.account.Account.{Account}
 use Rattle.rws_config.specs.declared.config.Config.{Config}
-use Rattle.rws_record.specs.declared.command.Command.{Command}
-use Rattle.rws_record.specs.declared.proxy_error.ProxyError.TheVariants.{NoPrimary}
-use Rattle.rws_record.specs.Requests.{class_by, request_of}
-use Rattle.rws_record.specs.Item.{Item, Purpose, Put}
+use Rattle.rws_commands.specs.declared.command.Command.{Command}
+use Rattle.rws_commands.specs.declared.judged.Judged.TheVariants.{Serves}
+use Rattle.rws_commands.specs.declared.proxy_error.ProxyError.TheVariants.{NoPrimary}
+use Rattle.rws_commands.specs.Commands.{asked_under, bytes_of, class_of_command, id_for, keeps}
+use Rattle.rws_commands.specs.Statements as steps_of
+use Rattle.rws_commands.specs.Statements.{Statements, failed_if, forgotten, is_otherwise, is_prepared, no_statements, played, swept_if, taken_as, unlinked}
+use Rattle.rws_record.specs.Item.{Ending, Item, Purpose, Put, Recording}
 use Rattle.rws_record.specs.Item.Item.{Accepted, Began, ClientBytes, LinkReady, LinkBytes, ClientGone, LinkLost, Ticks, Routed, Comes, Connects, Takes, Puts, Starves}
-use Rattle.rws_record.specs.Item.Judged.{Serves}
-use Rattle.rws_record.specs.Item.Put.{Tells, Routes, Opens, Sends, Drops, Closes}
+use Rattle.rws_record.specs.Item.Put.{Tells, Routes, Opens, Sends, Forgets, Drops, Closes}
 use Rattle.rws_record.specs.Item.Tell.{Passes, Refuses}
 use Rattle.rws_record.specs.Item.Purpose.{Prepares, Asks, Plays}
 use Rattle.rws_record.specs.Item.Recording.{Accepts, Keeps}
@@ -144,17 +155,23 @@ abbrev pub preamble : List ℕ
 preamble =
     COM_QUERY ∷ codes "SET SESSION session_track_system_variables = CONCAT(@@session_track_system_variables, ',last_gtid')"
 
--- what goes on the link for a purpose
-abbrev pub sent_for : Purpose → List ℕ
-sent_for Prepares = preamble
-sent_for (Asks command) = command.payload
-sent_for (Plays command) = command.payload
+-- the payloads that go on the link for a purpose
+abbrev pub sent_for : Purpose → List (List ℕ)
+sent_for Prepares = preamble ∷ []
+sent_for (Asks command id) = asked_under id command.body
+sent_for (Plays entry) = entry.payload ∷ []
 
 -- the kind of reply that answers it
 abbrev pub kind_of : Purpose → Kind
 kind_of Prepares = QueryReply
-kind_of (Asks command) = command.kind
-kind_of (Plays command) = command.kind
+kind_of (Asks command id) = command.kind
+kind_of (Plays entry) = entry.kind
+
+-- A link that was sent payloads, the last of which is answered. Each is a command of its own.
+abbrev pub sent_all : List (List ℕ) → Kind → LinkState
+sent_all [] kind = Rests
+sent_all (payload ∷ []) kind = sent payload (Some kind)
+sent_all (payload ∷ others) kind = sent_all others kind
 
 -- A link: what it waits for, with the bytes that came and aren't read. That of a session's beginning is ready, and any counts as
 -- such before it was opened. When the session loses the link it isn't cleared: it then says what was awaited there.
@@ -166,7 +183,7 @@ linked link (Comes from said ∷ past) = if from == link then (step (linked link
 linked link (LinkReady ready ∷ past) = if ready == link then readied (linked link past) else linked link past
 linked link (Puts (Opens opened server login) ∷ past) = if opened == link then opening login else linked link past
 linked link (Puts (Sends to purpose) ∷ past) =
-    if to == link then sent (sent_for purpose) (Some (kind_of purpose)) else linked link past
+    if to == link then sent_all (sent_for purpose) (kind_of purpose) else linked link past
 linked link (_ ∷ past) = linked link past
 
 -- what was sent on the link last, since it was opened; it isn't cleared either
@@ -179,6 +196,27 @@ asked_on link (_ ∷ past) = asked_on link past
 abbrev pub prepared_by : LinkStep → Option Purpose → Bool → Bool
 prepared_by (steps.Part payload role (Ends (Done status)) next behind) (Some Prepares) before = true
 prepared_by _ _ before = before
+
+-- the statement that a payload of a reply tells of, or one before it
+abbrev pub prepared_in : Result PrepareOk MsgFault → Option PrepareOk
+prepared_in (Ok ok) = Some ok
+prepared_in (Err fault) = None
+
+abbrev pub named_in : Role → List ℕ → Option PrepareOk → Option PrepareOk
+named_in Prepared payload before = prepared_in (prepare_ok_at payload)
+named_in _ payload before = before
+
+abbrev pub named_by : LinkStep → Option PrepareOk → Option PrepareOk
+named_by (steps.Part payload role progress next behind) before = named_in role payload before
+named_by _ before = before
+
+-- the statement that the reply on the link told of so far to what was sent last
+abbrev pub named_on : ℕ → List Item → Option PrepareOk
+named_on link [] = None
+named_on link (Puts (Opens opened server login) ∷ past) = if opened == link then None else named_on link past
+named_on link (Puts (Sends to purpose) ∷ past) = if to == link then None else named_on link past
+named_on link (Comes from said ∷ past) = if from == link then named_by said (named_on link past) else named_on link past
+named_on link (_ ∷ past) = named_on link past
 
 -- commands of the client may go on the link: it was prepared, or counts as it
 abbrev pub is_up : ℕ → List Item → Bool
@@ -202,11 +240,6 @@ unread Rests = []
 unread (Awaits e bytes) = bytes
 unread (IsLost cause) = []
 
--- The handle that a client knows a prepared statement by. Prepared statements aren't looked at yet: no command is answered
--- by a number of one, so no payload has this handle in it.
-abbrev pub prepared_handle : ℕ
-prepared_handle = 0
-
 -- the reply that the link owes: its kind, the number of the packet that comes next, and the payloads so far
 abbrev pub exchange : ℕ → List Item → Option Exchange
 exchange link past = awaited (linked link past)
@@ -221,7 +254,7 @@ link_held link past = unread (linked link past)
 abbrev pub pending : List Item → Option Command
 pending [] = None
 pending (Takes (Serves command) number ∷ past) = Some command
-pending (Puts (Tells number (Passes link command payload (Some outcome) recording)) ∷ past) = None
+pending (Puts (Tells number (Passes link command payload (Some ending) recording)) ∷ past) = None
 pending (Puts (Tells number (Refuses NoPrimary)) ∷ past) = None
 pending (_ ∷ past) = pending past
 
@@ -233,8 +266,8 @@ unless_link link None = None
 abbrev pub sent_on : List Item → Option ℕ
 sent_on [] = None
 sent_on (Takes judged number ∷ past) = None
-sent_on (Puts (Tells number (Passes link command payload (Some outcome) recording)) ∷ past) = None
-sent_on (Puts (Sends link (Asks command)) ∷ past) = Some link
+sent_on (Puts (Tells number (Passes link command payload (Some ending) recording)) ∷ past) = None
+sent_on (Puts (Sends link (Asks command id)) ∷ past) = Some link
 sent_on (LinkLost link ∷ past) = unless_link link (sent_on past)
 sent_on (Puts (Drops link cause) ∷ past) = unless_link link (sent_on past)
 sent_on (_ ∷ past) = sent_on past
@@ -243,38 +276,30 @@ sent_on (_ ∷ past) = sent_on past
 abbrev pub reply_number : List Item → ℕ
 reply_number [] = 0
 reply_number (Takes judged number ∷ past) = number
-reply_number (Puts (Tells number (Passes link command payload outcome recording)) ∷ past) = number_behind number payload
+reply_number (Puts (Tells number (Passes link command payload ending recording)) ∷ past) = number_behind number payload
 reply_number (_ ∷ past) = reply_number past
 
 -- the payloads that the client was passed since the last command was taken up, in its form
 abbrev pub told : List Item → List (List ℕ)
 told [] = []
 told (Takes judged number ∷ past) = []
-told (Puts (Tells number (Passes link command payload outcome recording)) ∷ past) = told past ++ payload ∷ []
+told (Puts (Tells number (Passes link command payload ending recording)) ∷ past) = told past ++ payload ∷ []
 told (_ ∷ past) = told past
 
 -- the link from which the last of them came, while the reply isn't whole
 abbrev pub told_from : List Item → Option ℕ
 told_from [] = None
 told_from (Takes judged number ∷ past) = None
-told_from (Puts (Tells number (Passes link command payload (Some outcome) recording)) ∷ past) = None
+told_from (Puts (Tells number (Passes link command payload (Some ending) recording)) ∷ past) = None
 told_from (Puts (Tells number (Passes link command payload None recording)) ∷ past) = Some link
 told_from (_ ∷ past) = told_from past
 
 -- Where it goes
 
-abbrev pub class_of_command : Command → Class
-class_of_command command = class_by (request_of command.payload) command.payload
-
 -- the class of the pending command
 abbrev pub class_by_pending : Option Command → Class
 class_by_pending (Some command) = class_of_command command
 class_by_pending None = Other
-
--- a command by which anything may be changed keeps the session on its link
-abbrev pub keeps : Class → Bool
-keeps Other = true
-keeps _ = false
 
 abbrev pub kept_by : Class → ℕ → Option ℕ → Option ℕ
 kept_by class link (Some kept) = Some kept
@@ -283,48 +308,45 @@ kept_by class link None = if keeps class then Some link else None
 -- the link that the session is kept on
 abbrev pub kept_on : List Item → Option ℕ
 kept_on [] = None
-kept_on (Puts (Sends link (Asks command)) ∷ past) = kept_by (class_of_command command) link (kept_on past)
-kept_on (Puts (Tells number (Passes link command payload (Some outcome) Keeps)) ∷ past) = Some link
+kept_on (Puts (Sends link (Asks command id)) ∷ past) = kept_by (class_of_command command) link (kept_on past)
+kept_on (Puts (Tells number (Passes link command payload (Some ending) Keeps)) ∷ past) = Some link
 kept_on (_ ∷ past) = kept_on past
 
--- it sets the session alone, and can be repeated on other links
-abbrev pub is_session : Class → Bool
-is_session Session = true
-is_session AutocommitOn = true
-is_session AutocommitOff = true
-is_session _ = false
+-- The session's history: its commands that set something and were answered without an error
 
-abbrev pub with_pending : List Command → Option Command → List Command
-with_pending commands (Some command) = commands ++ command ∷ []
-with_pending commands None = commands
-
--- The session's history: its commands that set something and were answered without an error, which each of its links plays
-abbrev pub accepted : List Item → List Command
-accepted [] = []
-accepted (Puts (Tells number (Passes link command payload (Some outcome) Accepts)) ∷ past) = with_pending (accepted past) (pending past)
-accepted (_ ∷ past) = accepted past
+-- how many entries it ever had: the serial of the next one
+abbrev pub serials : List Item → ℕ
+serials [] = 0
+serials (Puts (Tells number (Passes link command payload (Some ending) Accepts)) ∷ past) = serials past + 1
+serials (_ ∷ past) = serials past
 
 abbrev pub played_by : LinkStep → Option Purpose → ℕ → ℕ
-played_by (steps.Part payload role (Ends (Done status)) next behind) (Some (Plays command)) before = before + 1
+played_by (steps.Part payload role (Ends (Done status)) next behind) (Some (Plays entry)) before = entry.serial + 1
 played_by _ _ before = before
 
--- how many entries of the history a link has played, or led
+-- what a link has played, or led: the entries below this serial
 abbrev pub cursor : ℕ → List Item → ℕ
 cursor link [] = 0
 cursor link (Puts (Opens opened server login) ∷ past) = if opened == link then 0 else cursor link past
-cursor link (Puts (Tells number (Passes from command payload (Some outcome) Accepts)) ∷ past) =
-    if from == link then cursor link past + 1 else cursor link past
+cursor link (Puts (Tells number (Passes from command payload (Some ending) Accepts)) ∷ past) =
+    if from == link then serials past + 1 else cursor link past
 cursor link (Comes from said ∷ past) = if from == link then played_by said (asked_on link past) (cursor link past) else cursor link past
 cursor link (_ ∷ past) = cursor link past
 
-abbrev pub banned_by : LinkStep → Option Purpose → (server : ℕ) → ℕ → ℕ
-banned_by (steps.Part payload role (Ends (Failed code)) next behind) (Some (Plays command)) server before = with_server server before
-banned_by _ _ server before = before
+abbrev pub banned_if : (otherwise : Bool) → (server : ℕ) → ℕ → ℕ
+banned_if true server before = with_server server before
+banned_if false server before = before
 
--- the servers that answered an entry by an error, and not as the one that it was first sent to
+abbrev pub banned_by : LinkStep → Option Purpose → Option PrepareOk → (server : ℕ) → ℕ → ℕ
+banned_by (steps.Part payload role (Ends (Done status)) next behind) (Some (Plays entry)) named server before =
+    banned_if (is_otherwise entry.statement (named_in role payload named)) server before
+banned_by (steps.Part payload role (Ends (Failed code)) next behind) (Some (Plays entry)) named server before = with_server server before
+banned_by _ _ named server before = before
+
+-- the servers that answered an entry otherwise than the one that it was first sent to: by an error, or with other counts
 abbrev pub banned : List Item → ℕ
 banned [] = 0
-banned (Comes link said ∷ past) = banned_by said (asked_on link past) (server_of link past) (banned past)
+banned (Comes link said ∷ past) = banned_by said (asked_on link past) (named_on link past) (server_of link past) (banned past)
 banned (_ ∷ past) = banned past
 
 -- the clock's last reading, in milliseconds
@@ -361,13 +383,27 @@ or_link (Some link) other = Some link
 or_link None other = other
 
 abbrev pub length_by : Option Command → ℕ
-length_by (Some command) = length command.payload
+length_by (Some command) = bytes_of command.body
 length_by None = 0
 
+-- the command is a prepare
+abbrev pub prepares : Option Command → Bool
+prepares (Some command) = is_prepared command.kind
+prepares None = false
+
+-- what a reply shows: that of a prepare without an error shows nothing of the transaction, as if all were as before
+abbrev pub shown_by : (prepares : Bool) → Outcome → TrxState → Outcome
+shown_by true (Done status) state = Done (status_of state)
+shown_by _ outcome state = outcome
+
 -- the reply to the pending command came on a link, and ended so
-abbrev pub answer_to : Option Command → ℕ → Outcome → Answer
-answer_to command link outcome =
-    record { link = link; class = class_by_pending command; bytes = length_by command; outcome = outcome }
+abbrev pub answer_to : Option Command → ℕ → Outcome → TrxState → Answer
+answer_to command link outcome state = record {
+  link = link;
+  class = class_by_pending command;
+  bytes = length_by command;
+  outcome = shown_by (prepares command) outcome state;
+}
 
 abbrev pub answered_if : (speaks : Bool) → Answer → Transaction → Transaction
 answered_if true answer before = answered answer before
@@ -376,14 +412,29 @@ answered_if false answer before = before
 -- the transaction behind it
 abbrev pub answered_by : (kept : Option ℕ) → Option Command → ℕ → Outcome → Routing → Transaction → Transaction
 answered_by kept command link outcome r t =
-    answered_if (speaks (or_link kept t.link) link (class_by_pending command) r) (answer_to command link outcome) t
+    answered_if (speaks (or_link kept t.link) link (class_by_pending command) r) (answer_to command link outcome t.state) t
 
 -- Whether autocommit is on, what transaction is open, and on which link, as the replies said that the client has.
 abbrev pub transaction : Config → List Item → Transaction
 transaction config [] = no_transaction
-transaction config (Puts (Tells number (Passes link command payload (Some outcome) recording)) ∷ past) =
-    answered_by (kept_on past) (pending past) link outcome (routing config past) (transaction config past)
+transaction config (Puts (Tells number (Passes link command payload (Some ending) recording)) ∷ past) =
+    answered_by (kept_on past) (pending past) link ending.outcome (routing config past) (transaction config past)
 transaction config (_ ∷ past) = transaction config past
+
+abbrev pub is_end : Course → Bool
+is_end GoesOn = false
+is_end Begins = true
+is_end IsNone = true
+
+-- the transaction that was open ends with the reply
+abbrev pub ends_by : (kept : Option ℕ) → Option Command → ℕ → Outcome → Routing → Transaction → Bool
+ends_by kept command link outcome r t =
+    (speaks (or_link kept t.link) link (class_by_pending command) r && is_open t.state)
+    && is_end (course_of (answer_to command link outcome t.state) t)
+
+abbrev pub ends_transaction : Config → ℕ → Outcome → List Item → Bool
+ends_transaction config link outcome past =
+    ends_by (kept_on past) (pending past) link outcome (routing config past) (transaction config past)
 
 -- the link that all commands go on: the session is kept there, or its transaction is open there
 abbrev pub pinned : Config → List Item → Option ℕ
@@ -396,6 +447,51 @@ transaction_bytes config past = added (transaction config past).bytes (length_by
 -- the link that the pending command is to go on
 abbrev pub goes_on : Config → List Item → Option ℕ
 goes_on config past = or_link (pinned config past) (routing config past).assigned
+
+-- Its prepared statements
+
+abbrev pub command_in : FrontStep → List ℕ
+command_in (fronts.Command payload) = payload.bytes
+command_in _ = []
+
+-- the serial of a command that is added to the history
+abbrev pub serial_for : Recording → ℕ → Option ℕ
+serial_for Accepts serial = Some serial
+serial_for _ serial = None
+
+abbrev pub answered_in : ℕ → Option Command → Ending → Option ℕ → Statements → Statements
+answered_in link (Some command) ending serial s = steps_of.answered link command ending.outcome ending.named serial s
+answered_in link None ending serial s = s
+
+-- What came of a link: the end of the reply to the client's command may end the transaction, and that of the reply to an entry says by
+-- which id the link's server knows a statement.
+abbrev pub heard_on : ℕ → LinkStep → Option Purpose → (ends : Outcome → Bool) → Option PrepareOk → Statements → Statements
+heard_on link (steps.Part payload role (Ends outcome) next behind) (Some (Asks command id)) ends named s = swept_if (ends outcome) s
+heard_on link (steps.Part payload role (Ends (Done status)) next behind) (Some (Plays entry)) ends named s =
+    played link entry.serial entry.statement (named_in role payload named) s
+heard_on link _ _ ends named s = s
+
+-- The statements that the client has prepared, the ids that servers gave them, and the history. A reply that ends a transaction ends it
+-- before it means anything else.
+abbrev pub statements : Config → List Item → Statements
+statements config [] = no_statements
+statements config (Takes judged number ∷ past) =
+    taken_as judged (is_open (transaction config past).state) (command_in (step_of config.accounts (fronted config past)).0)
+    (statements config past)
+statements config (Comes link said ∷ past) =
+    heard_on link said (asked_on link past) (λ outcome. ends_transaction config link outcome past) (named_on link past) (statements config past)
+statements config (Puts (Tells number (Passes link command payload (Some ending) recording)) ∷ past) =
+    answered_in link (pending past) ending (serial_for recording (serials past)) (statements config past)
+statements config (Puts (Tells number (Refuses NoPrimary)) ∷ past) = failed_if (prepares (pending past)) (statements config past)
+statements config (Puts (Forgets link id) ∷ past) = forgotten link (statements config past)
+statements config (LinkLost link ∷ past) = unlinked link (statements config past)
+statements config (Puts (Drops link cause) ∷ past) = unlinked link (statements config past)
+statements config (_ ∷ past) = statements config past
+
+-- what the pending command goes on a link for
+abbrev pub asking_for : Option Command → ℕ → List Ids → Option Purpose
+asking_for (Some command) link ids = Some (Asks command (id_for link command.body ids))
+asking_for None link ids = None
 
 -- What the session waits for
 

@@ -8,7 +8,7 @@ use Rattle.rws_link.specs.Stepping.{LinkState, Exchange}
 use Rattle.rws_config.specs.declared.config.Config.{Config}
 use Rattle.rws_config.specs.declared.limits.TheConstants.{FLOOD_ROOM, SERVER_PAYLOAD}
 use Rattle.rws_config.specs.Allowed.{IsAllowed}
-use Rattle.rws_record.specs.declared.command.Command.{Command}
+use Rattle.rws_commands.specs.declared.command.Command.{Command}
 use Rattle.rws_record.specs.Item.{Item}
 use Rattle.rws_record.specs.Values.{exchange, fronted, held, is_over, link_held, linked, links, pending, unread}
 use Rattle.rws_record.proofs.RestLemmas.{Idles, Rested, rested}

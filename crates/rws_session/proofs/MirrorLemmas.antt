@@ -6,18 +6,17 @@ use Rattle.std.specs.Prelude.{◌&&◌, is_none, if◌then◌else◌}
 use Rattle.rws_wire.specs.declared.drop_cause.DropCause.{DropCause}
 use Rattle.rws_wire.specs.declared.drop_cause.DropCause.TheVariants.{End, Kept as IsKept}
 use Rattle.rws_class.specs.declared.class.Class.{Class}
-use Rattle.rws_reply.specs.declared.kind.Outcome.{Outcome}
-use Rattle.rws_reply.specs.declared.kind.Outcome.TheVariants.{Done, Failed}
 use Rattle.rws_config.specs.declared.config.Config.{Config}
-use Rattle.rws_record.specs.declared.command.Command.{Command}
-use Rattle.rws_record.specs.declared.proxy_error.ProxyError.{ProxyError}
-use Rattle.rws_record.specs.declared.proxy_error.ProxyError.TheVariants as errors
-use Rattle.rws_record.specs.Item.{Item, Put, Recording}
+use Rattle.rws_commands.specs.declared.command.Command.{Command}
+use Rattle.rws_commands.specs.declared.proxy_error.ProxyError.{ProxyError}
+use Rattle.rws_commands.specs.declared.proxy_error.ProxyError.TheVariants as errors
+use Rattle.rws_record.specs.Item.{Ending, Item, Put, Recording}
 use Rattle.rws_record.specs.Item.Item.{Puts}
-use Rattle.rws_record.specs.Item.Put.{Hands, Tells, Routes, Opens, LogsInto, Sends, Drops, Closes}
+use Rattle.rws_record.specs.Item.Put.{Hands, Tells, Routes, Opens, LogsInto, Sends, Forgets, Drops, Closes}
 use Rattle.rws_record.specs.Item.Recording.{Nothing, Accepts, Keeps}
 use Rattle.rws_record.specs.Item.Tell.{Passes, Owns, Refuses}
-use Rattle.rws_record.specs.Values.{keeps, kept_by, kept_on, links, without}
+use Rattle.rws_commands.specs.Commands.{keeps}
+use Rattle.rws_record.specs.Values.{kept_by, kept_on, links, without}
 use Rattle.rws_record.specs.Rules.{owed, after_keeping, after_loss, is_loss}
 use Rattle.rws_links.specs.declared.numbered.NumberedLink.{NumberedLink}
 use Rattle.rws_session.specs.declared.owing.Out.{Out}
@@ -58,27 +57,22 @@ others_are past true link (Some kept) links = refl
 others_are past false link kept links = refl
 
 -- the last payload of a reply goes out
-passed_is : (config : Config) (past : List Item) (number link : ℕ) (command : Command) (payload : List ℕ) (outcome : Outcome) (note : Recording)
-    (others : List Put) → owed config past ≡ Tells number (Passes link command payload (Some outcome) note) ∷ others
-    → passed number link payload (Some outcome) (recorded note) (owing_else config past (map erased others))
-    ≡ state_of config (Puts (Tells number (Passes link command payload (Some outcome) note)) ∷ past)
-passed_is config past number link command payload (Done status) Nothing others o = rw o refl
-passed_is config past number link command payload (Failed code) Nothing others o = rw o refl
-passed_is config past number link command payload (Done status) Accepts others o =
-    rw (o, led_is past number link command payload (Done status) (links past)) refl
-passed_is config past number link command payload (Failed code) Accepts others o =
-    rw (o, led_is past number link command payload (Failed code) (links past)) refl
-passed_is config past number link command payload (Done status) Keeps others o =
-    rw (o, map-append erased (after_keeping true link (kept_on past) (links past)) others, others_are past true link (kept_on past) (links past)) refl
-passed_is config past number link command payload (Failed code) Keeps others o =
+passed_is : (config : Config) (past : List Item) (number link : ℕ) (command : Command) (payload : List ℕ) (its : Ending) (note : Recording)
+    (others : List Put) → owed config past ≡ Tells number (Passes link command payload (Some its) note) ∷ others
+    → passed number link payload (Some its) (recorded note) (owing_else config past (map erased others))
+    ≡ state_of config (Puts (Tells number (Passes link command payload (Some its) note)) ∷ past)
+passed_is config past number link command payload its Nothing others o = rw o refl
+passed_is config past number link command payload its Accepts others o =
+    rw (o, led_is past number link command payload its (links past)) refl
+passed_is config past number link command payload its Keeps others o =
     rw (o, map-append erased (after_keeping true link (kept_on past) (links past)) others, others_are past true link (kept_on past) (links past)) refl
 
 -- something that was owed first goes out
 pub put_is : (config : Config) (past : List Item) (put : Put) (others : List Put) (out : Out) → owed config past ≡ put ∷ others
     → erased put ≡ Some out → after_out out (owing_else config past (map erased others)) ≡ state_of config (Puts put ∷ past)
-put_is config past (Tells number (Passes link command payload (Some outcome) recording)) others out o e =
-    let same : outs.Pass number link payload (Some outcome) (recorded recording) ≡ out = cc in
-    rw (← same) (passed_is config past number link command payload outcome recording others o)
+put_is config past (Tells number (Passes link command payload (Some its) recording)) others out o e =
+    let same : outs.Pass number link payload (Some its) (recorded recording) ≡ out = cc in
+    rw (← same) (passed_is config past number link command payload its recording others o)
 put_is config past (Tells number (Passes link command payload None recording)) others out o e =
     let same : outs.Pass number link payload None (recorded recording) ≡ out = cc in rw (← same) (rw o refl)
 put_is config past (Tells number (Owns status)) others out o e =
@@ -105,6 +99,7 @@ put_is config past (Opens link server login) others out o e = absurd cc
 put_is config past (LogsInto link packets) others out o e =
     let same : outs.LogIn link packets ≡ out = cc in rw (← same) (rw o refl)
 put_is config past (Sends link purpose) others out o e = absurd cc
+put_is config past (Forgets link id) others out o e = absurd cc
 put_is config past (Drops link cause) others out o e =
     let same : outs.Drop link cause ≡ out = cc in rw (← same) (by_loss (is_loss cause) refl)
   where

@@ -26,7 +26,7 @@ use Rattle.rws_session.specs.State.{State, erased}
 use Rattle.rws_links.specs.Table.{AreDistinct, ReadiesOn}
 use Rattle.rws_session.specs.Kept.{Holds, Is, Kept, Stands, StandsOr}
 use Rattle.rws_session.specs.Turning.{heard, heard_open}
-use Rattle.rws_session.specs.Steps.{Goes, Hears, Rests, Tries, due_put, ends, loses, stands_at, ticks}
+use Rattle.rws_session.specs.Steps.{Goes, Hears, Rests, Tries, Went, due_put, ends, loses, stands_at, ticks}
 use Rattle.rws_session.specs.Turning.{Settles, Turns}
 use Rattle.rws_links.proofs.DistinctLemmas.{links_distinct}
 use Rattle.rws_links.proofs.TableLemmas.{has_is, without_is}
@@ -89,6 +89,21 @@ asks_already config past k is e =
 pub unasking_of : (config : Config) (past : List Item) (k : Kept) → Is config k past → k.state.asking ≡ false → asking past ≡ false
 unasking_of config past k is e = sym (ap (λ (s : State). s.asking) is.mirrors) ∙ e
 
+-- Nothing was owed nor asked, and memory was wanting where something was to be sent.
+pub sent_in_part : (config : Config) (past : List Item) (old k1 k2 new : Kept) → Is config old past → old.state.asking ≡ false
+    → Tries config (due_put (owed config past)) past false old k1
+    → (Is config k1 past → owed config past ≡ [] → asking past ≡ false → Tries config (due_route config past) past false k1 k2)
+    → (Is config k2 past → Holds k2 new) → Holds old new
+sent_in_part config past old k1 k2 new is unasked paid asked holds =
+    let is_1 = subst (λ (k : Kept). Is config k past) (sym paid.1) is in
+    let none = asked is_1 (by_owed (owed config past) paid.0) (unasking_of config past old is unasked) in
+    let is_2 = subst (λ (k : Kept). Is config k past) (sym none.1) is_1 in
+    subst (λ (k : Kept). Holds k new) (none.1 ∙ paid.1) (holds is_2)
+  where
+    by_owed : (list : List Put) → due_put list ≡ None → list ≡ []
+    by_owed [] e = refl
+    by_owed (put ∷ others) e = absurd cc
+
 -- No kind of step went but the last three.
 module _ (config : Config) (past : List Item) (old k1 k2 k3 : Kept) (is : Is config old past) (unasked : old.state.asking ≡ false)
     (open_still : k1.state.over ≡ false) (paid : Tries config (due_put (owed config past)) past false old k1)
@@ -138,6 +153,15 @@ module _ (config : Config) (past : List Item) (old k1 k2 k3 : Kept) (is : Is con
 
     same_4 : k4 ≡ old
     same_4 = flooded_none.1 ∙ same_3
+
+    -- what came on the links was taken in
+    pub read_went : (new : Kept) → (Is config k4 past → owed config past ≡ [] → Went config (due_arrival (links past) past) past k4 new)
+        → Went config (next config past) past old new
+    read_went new read =
+        let went = read is_4 owes_none in
+        let due : next config past ≡ Some went.item =
+        rw (asks_none, owes_none, over_none, asked_none.0, sent_none.0, flooded_none.0, went.is_due) refl in
+        subst (λ (k : Kept). Went config (next config past) past k new) same_4 (record { item = went.item; is_due = due; made = went.made })
 
     pub read_in_part : (new : Kept) → Holds k4 new → Holds old new
     read_in_part new holds = subst (λ (k : Kept). Holds k new) same_4 holds

@@ -7,15 +7,16 @@ use Rattle.rws_front.specs.Fronting.{Fronting}
 use Rattle.rws_routing.specs.declared.routing.Routing.{Routing}
 use Rattle.rws_trx.specs.declared.transaction.Transaction.{Transaction}
 use Rattle.rws_config.specs.declared.config.Config.{Config}
-use Rattle.rws_record.specs.declared.command.Command.{Command}
-use Rattle.rws_record.specs.declared.proxy_error.ProxyError.TheVariants.{OutOfMemory}
+use Rattle.rws_commands.specs.declared.command.Command.{Command}
+use Rattle.rws_commands.specs.Statements.{Statements}
+use Rattle.rws_commands.specs.declared.proxy_error.ProxyError.TheVariants.{OutOfMemory}
 use Rattle.rws_record.specs.Item.{Item, Put}
-use Rattle.rws_record.specs.Item.Put.{Hands, Tells, Routes, Opens, LogsInto, Sends, Drops, Closes}
+use Rattle.rws_record.specs.Item.Put.{Hands, Tells, Routes, Opens, LogsInto, Sends, Forgets, Drops, Closes}
 use Rattle.rws_record.specs.Item.Tell.{Passes, Owns, Refuses}
 use Rattle.rws_record.specs.Record.{want_number}
-use Rattle.rws_record.specs.Values.{accepted, asking, banned, fronted, is_over, kept_on, links, login_of, now as reading, pending, reply_number, routing, sent_on, told_from, transaction}
+use Rattle.rws_record.specs.Values.{asking, banned, fronted, is_over, kept_on, links, login_of, now as reading, pending, reply_number, routing, sent_on, serials, statements, told_from, transaction}
 use Rattle.rws_record.specs.Rules.{owed}
-use Rattle.rws_record.specs.Errors.{error_of}
+use Rattle.rws_commands.specs.Errors.{error_of}
 use Rattle.rws_links.specs.declared.numbered.NumberedLink.{NumberedLink}
 pub use Rattle.rws_links.specs.Links.{link_of, number_of}
 use Rattle.rws_links.specs.History.{recorded}
@@ -30,8 +31,10 @@ pub record State : Type 0 where
   pub links : List NumberedLink
   -- the link that the session is kept on
   pub kept_on : Option ℕ
-  -- the session's history, and the servers that answered one of its entries by an error
-  pub accepted : List Command
+  -- the client's prepared statements and the session's history, how many entries that ever had, and the servers that answered one
+  -- otherwise
+  pub statements : Statements
+  pub serials : ℕ
   pub banned : ℕ
   -- the command that isn't answered, the link that it was sent on, and that from which a part of its reply was told
   pub pending : Option Command
@@ -60,10 +63,11 @@ erased (Hands packets) = Some (outs.Hand packets)
 erased Routes = None
 erased (Opens link server login) = None
 erased (LogsInto link packets) = Some (outs.LogIn link packets)
-erased (Tells number (Passes link command payload outcome recording)) = Some (outs.Pass number link payload outcome (recorded recording))
+erased (Tells number (Passes link command payload ending recording)) = Some (outs.Pass number link payload ending (recorded recording))
 erased (Tells number (Owns status)) = Some (outs.Own number status)
 erased (Tells number (Refuses error)) = Some (outs.Refuse number error)
 erased (Sends link purpose) = None
+erased (Forgets link id) = None
 erased (Drops link cause) = Some (outs.Drop link cause)
 erased (Closes reason) = Some (outs.Close reason)
 
@@ -83,7 +87,8 @@ state_of config past = record {
   login = login_of config past;
   links = map (link_of past) (links past);
   kept_on = kept_on past;
-  accepted = accepted past;
+  statements = statements config past;
+  serials = serials past;
   banned = banned past;
   pending = pending past;
   sent_on = sent_on past;

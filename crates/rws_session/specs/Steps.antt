@@ -1,9 +1,9 @@
 -- How the steps of a session change what it keeps.
-use Rattle.std.specs.Prelude.{◌≡◌, ◌&&◌, ℕ, nat_lt, Bool, true, false, List, [], ◌∷◌, ◌++◌, length, map, not, Option, Some, None, is_some, is_none, if◌then◌else◌}
+use Rattle.std.specs.Prelude.{◌≡◌, ◌&&◌, ℕ, ◌+◌, nat_lt, Bool, true, false, List, [], ◌∷◌, ◌++◌, length, map, not, Option, Some, None, is_some, is_none, if◌then◌else◌}
 use Rattle.rws_wire.specs.Packets.{spelling, number_behind}
 use Rattle.rws_wire.specs.declared.close_reason.CloseReason.{CloseReason}
 use Rattle.rws_wire.specs.declared.drop_cause.DropCause.{DropCause}
-use Rattle.rws_wire.specs.declared.drop_cause.DropCause.TheVariants.{End, Kept as IsKept}
+use Rattle.rws_wire.specs.declared.drop_cause.DropCause.TheVariants.{End, Kept as IsKept, SessionDiffers}
 use Rattle.rws_msgs.specs.ErrLayout.{err_bytes}
 use Rattle.rws_native.specs.declared.login.Login.{Login}
 use Rattle.rws_front.specs.declared.step.FrontStep.{FrontStep}
@@ -11,6 +11,7 @@ use Rattle.rws_front.specs.declared.step.FrontStep.TheVariants as fronts
 use Rattle.rws_front.specs.Connection.{error_number}
 use Rattle.rws_front.specs.Fronting.{Fronting}
 use Rattle.rws_reply.specs.declared.kind.Outcome.{Outcome}
+use Rattle.rws_reply.specs.declared.kind.Outcome.TheVariants.{Done, Failed}
 use Rattle.rws_reply.specs.declared.kind.Progress.{Progress}
 use Rattle.rws_reply.specs.declared.kind.Progress.TheVariants.{More, Whole}
 use Rattle.rws_link.specs.declared.step.LinkStep.{LinkStep}
@@ -22,26 +23,35 @@ use Rattle.rws_routing.specs.Routings.{finds_late, lost, new_routing, routed, se
 use Rattle.rws_trx.specs.declared.transaction.Transaction.{Transaction}
 use Rattle.rws_trx.specs.OnLinks.{added, no_transaction, status_of}
 use Rattle.rws_config.specs.declared.config.Config.{Config}
-use Rattle.rws_record.specs.declared.command.Command.{Command}
-use Rattle.rws_record.specs.declared.proxy_error.ProxyError.{ProxyError}
-use Rattle.rws_record.specs.declared.proxy_error.ProxyError.TheVariants.{NoPrimary}
-use Rattle.rws_record.specs.Item.{Item, Judged, Put}
+use Rattle.rws_commands.specs.declared.command.Command.{Command}
+use Rattle.rws_commands.specs.declared.proxy_error.ProxyError.{ProxyError}
+use Rattle.rws_commands.specs.declared.proxy_error.ProxyError.TheVariants.{NoPrimary}
+use Rattle.rws_commands.specs.declared.judged.Judged.{Judged}
+use Rattle.rws_record.specs.Item.{Ending, Item, Put}
 use Rattle.rws_record.specs.Item.Item.{Puts}
-use Rattle.rws_record.specs.Item.Judged.{Serves}
-use Rattle.rws_record.specs.Item.Put.{Opens}
-use Rattle.rws_record.specs.Rules.{after_command, after_connecting, after_loss_by, after_played, after_preparing, after_route, again_by, drop_cause, form_of, goes_if, is_link, is_loss, is_read_only, is_replayable, Loss, loss_by, next, not_replayable, recording_by, unasked}
+use Rattle.rws_commands.specs.declared.judged.Judged.TheVariants.{Serves}
+use Rattle.rws_record.specs.Item.Put.{Drops, Opens}
+use Rattle.rws_record.specs.Rules.{after_command, after_connecting, after_loss_by, after_preparing, after_route, again_by, differing, drop_cause, form_of, goes_if, is_link, is_loss, is_read_only, is_replayable, Loss, loss_by, next, not_replayable, recording_by, unasked}
 use Rattle.rws_record.specs.Record.{GoesOn}
-use Rattle.rws_record.specs.Errors.{error_of}
-use Rattle.rws_record.specs.Judging.{Context, judged}
-use Rattle.rws_record.specs.Outputs.{actions_of, own_ok, outs_of}
-use Rattle.rws_record.specs.Values.{answered_by, class_by_pending, class_of_command, is_session, keeps, length_by, login_by, or_link, preamble, unless_link, with_pending}
+use Rattle.rws_commands.specs.Errors.{error_of}
+use Rattle.rws_commands.specs.declared.history.HistoryEntry.{HistoryEntry}
+use Rattle.rws_commands.specs.declared.history.PreparedAs.{PreparedAs}
+use Rattle.rws_commands.specs.declared.judged.Situation.{Situation}
+use Rattle.rws_commands.specs.Judging.{judged}
+use Rattle.rws_commands.specs.Statements.{Statements, failed_if, is_full, is_otherwise, last_serial, next_handle, no_statements, played, swept_if, taken_as, unlinked}
+use Rattle.rws_msgs.specs.declared.prepare_ok.PrepareOk.{PrepareOk}
+use Rattle.rws_trx.specs.Transactions.{is_open}
+use Rattle.rws_record.specs.Outputs.{actions_of, close_bytes, own_ok, outs_of}
+use Rattle.rws_commands.specs.Commands.{asked_under, class_of_command, id_for, is_session, keeps}
+use Rattle.rws_record.specs.Values.{answered_by, answered_in, class_by_pending, ends_by, length_by, login_by, or_link, preamble, prepares as prepares_one, unless_link}
 use Rattle.rws_links.specs.declared.coming.Coming.{Coming}
 use Rattle.rws_links.specs.declared.history.Recording.{Recording}
 use Rattle.rws_links.specs.declared.history.Recording.TheVariants as recordings
 use Rattle.rws_links.specs.declared.numbered.Asked.{Asked}
 use Rattle.rws_links.specs.declared.numbered.Asked.TheVariants.{Preamble, Entry as AnEntry, Command as ACommand}
 use Rattle.rws_links.specs.declared.numbered.NumberedLink.{NumberedLink}
-use Rattle.rws_links.specs.Finding.{first_to}
+use Rattle.rws_links.specs.declared.finding.Due.{Due}
+use Rattle.rws_links.specs.Finding.{first_due, first_to}
 use Rattle.rws_links.specs.Links.{new_link}
 use Rattle.rws_session.specs.declared.owing.Out.{Out}
 use Rattle.rws_session.specs.declared.owing.Out.TheVariants as outs
@@ -60,7 +70,8 @@ fresh number front login links reading = record {
     login = login;
     links = links;
     kept_on = None;
-    accepted = [];
+    statements = no_statements;
+    serials = 0;
     banned = 0;
     pending = None;
     sent_on = None;
@@ -85,7 +96,7 @@ owes puts s = record s { owed = map erased puts ++ s.owed }
 
 -- what is done outside for something that was owed
 abbrev pub action_of : ℕ → Out → Action
-action_of session (outs.Pass number link payload outcome recording) = actions.ToClient session (spelling number payload)
+action_of session (outs.Pass number link payload ending recording) = actions.ToClient session (spelling number payload)
 action_of session (outs.Hand packets) = actions.ToClient session packets
 action_of session (outs.LogIn link packets) = actions.ToLink link packets
 action_of session (outs.Own number status) = actions.ToClient session (spelling number (own_ok status))
@@ -98,22 +109,30 @@ abbrev pub others_dropped : (keeping : Bool) → ℕ → List NumberedLink → L
 others_dropped true link links = map (λ other. Some (outs.Drop other.number IsKept)) (without_number link links)
 others_dropped false link links = []
 
--- What the end of a reply means for the history is noted: the pending command is added to it, which the link led, or the session is
--- to be kept on the link.
+-- What the end of a reply means for the history is noted: the link led one more entry, or the session is to be kept on the link.
 abbrev pub notes : ℕ → Recording → State → State
 notes link recordings.Nothing s = s
-notes link recordings.Accepts s =
-    record s { links = map (led link) s.links; accepted = with_pending s.accepted s.pending; pending = None }
+notes link recordings.Accepts s = record s { links = map (led link s.serials) s.links; serials = s.serials + 1 }
 notes link recordings.Keeps s = record s { owed = others_dropped (is_none s.kept_on) link s.links ++ s.owed }
+
+-- the serial under which a command is added to the history
+abbrev pub serial_in : Recording → ℕ → Option ℕ
+serial_in recordings.Accepts serial = Some serial
+serial_in _ serial = None
+
+-- the client's statements and the history behind the end of the pending command's reply
+abbrev pub statements_behind : ℕ → Ending → Recording → State → Statements
+statements_behind link ending recording s = answered_in link s.pending ending (serial_in recording s.serials) s.statements
 
 abbrev pub kept_behind : ℕ → Recording → Option ℕ → Option ℕ
 kept_behind link recordings.Keeps kept = Some link
 kept_behind link _ kept = kept
 
--- the reply ended, and the transaction is this one
-abbrev pub ends_reply : (next link : ℕ) → Transaction → Recording → State → State
-ends_reply next link t recording s = record s {
+-- the reply ended, and the transaction and the statements are these
+abbrev pub ends_reply : (next link : ℕ) → Transaction → Statements → Recording → State → State
+ends_reply next link t statements recording s = record s {
   kept_on = kept_behind link recording s.kept_on;
+  statements = statements;
   pending = None;
   sent_on = None;
   told_from = None;
@@ -125,15 +144,17 @@ ends_reply next link t recording s = record s {
 abbrev pub transaction_behind : ℕ → Outcome → State → Transaction
 transaction_behind link outcome s = answered_by s.kept_on s.pending link outcome s.routing s.transaction
 
--- a payload of the pending command's reply went to the client, from a link: the last one with the reply's outcome
-abbrev pub passed : (number link : ℕ) → List ℕ → Option Outcome → Recording → State → State
-passed number link payload (Some outcome) recording s =
-    ends_reply (number_behind number payload) link (transaction_behind link outcome s) recording (notes link recording s)
+-- a payload of the pending command's reply went to the client, from a link: the last one with the reply's end
+abbrev pub passed : (number link : ℕ) → List ℕ → Option Ending → Recording → State → State
+passed number link payload (Some ending) recording s =
+    ends_reply (number_behind number payload) link (transaction_behind link ending.outcome s) (statements_behind link ending recording s) recording
+    (notes link recording s)
 passed number link payload None recording s = record s { told_from = Some link; reply_number = number_behind number payload }
 
 -- an error of the proxy's own went to the client: where there was no primary it is the pending command's answer
 abbrev pub refused : ProxyError → State → State
-refused NoPrimary s = record s { pending = None; routing = stopped s.routing }
+refused NoPrimary s =
+    record s { pending = None; routing = stopped s.routing; statements = failed_if (prepares_one s.pending) s.statements }
 refused _ s = s
 
 -- the link that the pending command is to go on
@@ -154,9 +175,9 @@ ending_in s = not_replayable (added s.transaction.bytes (length_by s.pending)) s
 abbrev pub leaves : ℕ → State → State
 leaves link s = record s { sent_on = unless_link link s.sent_on; routing = lost link s.routing }
 
--- a link is taken away, and what it was for the pending command is forgotten
+-- a link is taken away, and what it was for the pending command is forgotten, and its ids
 abbrev pub forgets : ℕ → State → State
-forgets link s = leaves link (record s { links = without_number link s.links })
+forgets link s = leaves link (record s { links = without_number link s.links; statements = unlinked link s.statements })
 
 -- a link is lost, and what this means is owed
 abbrev pub loses : ℕ → State → State
@@ -173,7 +194,7 @@ ends s = record s { over = true; owed = map (λ link. Some (outs.Drop link.numbe
 abbrev pub after_out : Out → State → State
 after_out (outs.Hand packets) s = s
 after_out (outs.LogIn link packets) s = s
-after_out (outs.Pass number link payload outcome recording) s = passed number link payload outcome recording s
+after_out (outs.Pass number link payload ending recording) s = passed number link payload ending recording s
 after_out (outs.Own number status) s = s
 after_out (outs.Refuse number error) s = refused error s
 after_out (outs.Drop link cause) s = gives_up link cause s
@@ -241,6 +262,10 @@ TakesRoute puts next old new false = (opens_none puts ≡ true) × (new ≡ reco
 abbrev pub unsent : State → Option ℕ
 unsent s = if (is_some s.pending && is_none s.sent_on) then going s else None
 
+-- what is due first on the links
+abbrev pub found_due : State → Option Due
+found_due s = first_due (unsent s) (last_serial s.statements.history) s.links
+
 -- something goes out on a link; these are the links then
 abbrev pub sends_on : ℕ → List ℕ → List NumberedLink → Kept → Kept
 sends_on link payload links k = record k {
@@ -254,11 +279,16 @@ SendsPreamble link true old new = new ≡ sends_on link preamble new.state.links
 SendsPreamble link false old new = new ≡ record old { state = record old.state { links = new.state.links } }
 
 -- an entry of the history goes out, or nothing does
-abbrev pub SendsEntry : ℕ → Option Command → Bool → Kept → Kept → Type 0
-SendsEntry link (Some command) true old new = new ≡ sends_on link command.payload new.state.links old
-SendsEntry link (Some command) false old new = new ≡ record old { state = record old.state { links = new.state.links } }
+abbrev pub SendsEntry : ℕ → Option HistoryEntry → Bool → Kept → Kept → Type 0
+SendsEntry link (Some entry) true old new = new ≡ sends_on link entry.payload new.state.links old
+SendsEntry link (Some entry) false old new = new ≡ record old { state = record old.state { links = new.state.links } }
 SendsEntry link None true old new = ⊥
 SendsEntry link None false old new = new ≡ old
+
+-- a server is told to close the statement that it has under this id, or nothing goes out
+abbrev pub SendsClose : (link id : ℕ) → Bool → Kept → Kept → Type 0
+SendsClose link id true old new = new ≡ sends_on link (close_bytes id) new.state.links old
+SendsClose link id false old new = new ≡ record old { state = record old.state { links = new.state.links } }
 
 -- this command keeps the session on the link that it is sent on, and it wasn't kept before
 abbrev pub is_keeping : Command → (kept : Option ℕ) → Bool
@@ -273,9 +303,15 @@ sends_in link command links s = record s {
   owed = others_dropped (is_keeping command s.kept_on) link links ++ s.owed;
 }
 
+-- the id that the link's server has for its statement
+abbrev pub id_in : ℕ → Command → State → Option ℕ
+id_in link command s = id_for link command.body s.statements.table.links
+
 abbrev pub sends : ℕ → Command → List NumberedLink → Kept → Kept
-sends link command links k =
-    record k { outs = k.outs ++ actions.ToLink link (spelling 0 command.payload) ∷ []; state = sends_in link command links k.state }
+sends link command links k = record k {
+  outs = k.outs ++ map (λ payload. actions.ToLink link (spelling 0 payload)) (asked_under (id_in link command k.state) command.body);
+  state = sends_in link command links k.state;
+}
 
 -- the pending command went out on a link, or nothing did
 abbrev pub SendsPending : ℕ → Option Command → Bool → Kept → Kept → Type 0
@@ -302,8 +338,10 @@ abbrev pub begins_reply : ℕ → State → State
 begins_reply number s = record s { sent_on = None; told_from = None; reply_number = number; routing = new_routing }
 
 -- it is taken up
-abbrev pub takes : Judged → ℕ → State → State
-takes judgement number s = answers judgement number (begins_reply number s)
+abbrev pub takes : Judged → (payload : List ℕ) → ℕ → State → State
+takes judgement payload number s = answers judgement number (record (begins_reply number s) {
+  statements = taken_as judgement (is_open s.transaction.state) payload s.statements;
+})
 
 -- the client's side said something; this is where it stands then
 abbrev pub stands_at : Fronting → State → State
@@ -318,55 +356,100 @@ abbrev pub connects : FrontStep → State → State
 connects said s = record s { login = login_by said s.login; owed = map erased (after_connecting said) ++ s.owed }
 
 -- what came of the client was taken up, or nothing came
-abbrev pub TakesSaid : Context → FrontStep → Bool → Kept → Kept → Type 0
-TakesSaid now fronts.Idle false old new = new ≡ old
-TakesSaid now fronts.Idle true old new = ⊥
-TakesSaid now said false old new = ⊥
-TakesSaid now (fronts.Command payload) true old new =
-    new ≡ record old { state = takes (judged now payload.bytes payload.next) payload.next old.state }
-TakesSaid now said true old new = new ≡ record old { state = connects said old.state }
+abbrev pub TakesSaid : Situation → Statements → FrontStep → Bool → Kept → Kept → Type 0
+TakesSaid now statements fronts.Idle false old new = new ≡ old
+TakesSaid now statements fronts.Idle true old new = ⊥
+TakesSaid now statements said false old new = ⊥
+TakesSaid now statements (fronts.Command payload) true old new =
+    new ≡ record old { state = takes (judged now statements payload.bytes payload.next) payload.bytes payload.next old.state }
+TakesSaid now statements said true old new = new ≡ record old { state = connects said old.state }
 
--- the history, which has room for so many entries, has none left
-abbrev pub is_full_in : (limit : ℕ) → State → Bool
-is_full_in limit s = not (nat_lt (length s.accepted) limit)
+-- how the session stands where a command comes now
+abbrev pub situation_in : Config → State → Situation
+situation_in config s = record {
+  in_transaction = is_open s.transaction.state;
+  read_only = is_read_only s.transaction.state.opened;
+  history_limit = config.history_limit;
+  room = config.command_bytes;
+}
 
--- what a command is judged by that comes now
-abbrev pub context_in : (limit : ℕ) → State → Context
-context_in limit s = record { read_only = is_read_only s.transaction.state.opened; full = is_full_in limit s }
-
--- what the end of the pending command's reply means for the history
+-- what the end of the pending command's reply means for the history, which has these entries then
 abbrev pub recording_in : (limit : ℕ) → State → Outcome → Recording
 recording_in limit s outcome =
-    recorded (recording_by (is_session (class_by_pending s.pending)) (is_some s.kept_on) (is_full_in limit s) outcome)
+    recorded (recording_by (is_session (class_by_pending s.pending)) (is_some s.kept_on) (is_full limit s.statements) outcome)
 
 -- what follows on a payload of the pending command's reply, which is this in the client's form
-abbrev pub owes_reply : ℕ → (form : List ℕ) → Progress → (behind : Bool) → (number : ℕ) → (Outcome → Recording) → List (Option Out)
-owes_reply link form More behind number recording = Some (outs.Pass number link form None recordings.Nothing) ∷ []
-owes_reply link form (Whole outcome) behind number recording =
-    Some (outs.Pass number link form (Some outcome) (recording outcome)) ∷ map erased (unasked link behind)
+abbrev pub owes_reply : ℕ → (form : List ℕ) → (named : Option PrepareOk) → Progress → (behind : Bool) → (number : ℕ) → (Outcome → Recording) → List (Option Out)
+owes_reply link form named More behind number recording = Some (outs.Pass number link form None recordings.Nothing) ∷ []
+owes_reply link form named (Whole outcome) behind number recording =
+    Some (outs.Pass number link form (Some (record { outcome = outcome; named = named })) (recording outcome)) ∷ map erased (unasked link behind)
+
+-- what follows on a payload of the reply to an entry that prepares this
+abbrev pub owes_played : ℕ → Option PreparedAs → (named : Option PrepareOk) → Progress → (behind : Bool) → List Put
+owes_played link statement named More behind = []
+owes_played link statement named (Whole (Done status)) behind = differing link (is_otherwise statement named) behind
+owes_played link statement named (Whole (Failed code)) behind = Drops link SessionDiffers ∷ []
 
 -- what follows on a payload of a reply, by what was asked
-abbrev pub owes_part : ℕ → Option Asked → (form : List ℕ) → Progress → (behind : Bool) → (number : ℕ) → (Outcome → Recording) → List (Option Out)
-owes_part link (Some ACommand) form progress behind number recording = owes_reply link form progress behind number recording
-owes_part link (Some AnEntry) form progress behind number recording = map erased (after_played link progress behind)
-owes_part link (Some Preamble) form progress behind number recording = map erased (after_preparing link progress behind)
-owes_part link None form progress behind number recording = []
+abbrev pub owes_part : ℕ → Option Asked → (form : List ℕ) → (named : Option PrepareOk) → Progress → (behind : Bool) → (number : ℕ) → (Outcome → Recording) → List (Option Out)
+owes_part link (Some ACommand) form named progress behind number recording = owes_reply link form named progress behind number recording
+owes_part link (Some (AnEntry serial statement)) form named progress behind number recording = map erased (owes_played link statement named progress behind)
+owes_part link (Some Preamble) form named progress behind number recording = map erased (after_preparing link progress behind)
+owes_part link None form named progress behind number recording = []
 
--- what follows on what a link says
-abbrev pub owes_for : ℕ → LinkStep → Option Asked → (number : ℕ) → (Outcome → Recording) → List (Option Out)
-owes_for link (steps.Part payload role progress next behind) asked number recording =
-    owes_part link asked (form_of role payload) progress behind number recording
-owes_for link (steps.Lost cause) asked number recording = Some (outs.Drop link (drop_cause cause)) ∷ []
-owes_for link (steps.Send packets) asked number recording = Some (outs.LogIn link packets) ∷ []
-owes_for link steps.LoggedIn asked number recording = []
-owes_for link steps.Idle asked number recording = []
+-- what follows on what a link says, where the next statement's handle is this
+abbrev pub owes_for : (handle : ℕ) → ℕ → LinkStep → Option Asked → (named : Option PrepareOk) → (number : ℕ) → (Outcome → Recording) → List (Option Out)
+owes_for handle link (steps.Part payload role progress next behind) asked named number recording =
+    owes_part link asked (form_of handle role payload) named progress behind number recording
+owes_for handle link (steps.Lost cause) asked named number recording = Some (outs.Drop link (drop_cause cause)) ∷ []
+owes_for handle link (steps.Send packets) asked named number recording = Some (outs.LogIn link packets) ∷ []
+owes_for handle link steps.LoggedIn asked named number recording = []
+owes_for handle link steps.Idle asked named number recording = []
 
--- it is taken in; the history has room for so many entries
-abbrev pub takes_coming : (limit : ℕ) → Coming → State → State
-takes_coming limit coming s = record s {
-  banned = bans coming.said coming.asked coming.server s.banned;
-  owed = owes_for coming.link coming.said coming.asked s.reply_number (recording_in limit s) ++ s.owed;
+-- the transaction that was open ends with a reply that ended so on a link
+abbrev pub ends_in : ℕ → State → Outcome → Bool
+ends_in link s outcome = ends_by s.kept_on s.pending link outcome s.routing s.transaction
+
+-- how the reply ended that is whole with what a link says
+abbrev pub outcome_of : LinkStep → Option Outcome
+outcome_of (steps.Part payload role (Whole outcome) next behind) = Some outcome
+outcome_of _ = None
+
+-- an entry was played, or refused
+abbrev pub played_if : (link serial : ℕ) → Option PreparedAs → (named : Option PrepareOk) → Outcome → Statements → Statements
+played_if link serial statement named (Done status) s = played link serial statement named s
+played_if link serial statement named (Failed code) s = s
+
+-- the statements behind the end of a reply on a link, by what was asked there
+abbrev pub ended_in : ℕ → Outcome → Option Asked → (ends : Outcome → Bool) → (named : Option PrepareOk) → Statements → Statements
+ended_in link outcome (Some ACommand) ends named s = swept_if (ends outcome) s
+ended_in link outcome (Some (AnEntry serial statement)) ends named s = played_if link serial statement named outcome s
+ended_in link outcome (Some Preamble) ends named s = s
+ended_in link outcome None ends named s = s
+
+abbrev pub heard_in_by : ℕ → Option Outcome → Option Asked → (ends : Outcome → Bool) → (named : Option PrepareOk) → Statements → Statements
+heard_in_by link (Some outcome) asked ends named s = ended_in link outcome asked ends named s
+heard_in_by link None asked ends named s = s
+
+-- and behind what a link says
+abbrev pub heard_in : ℕ → LinkStep → Option Asked → (ends : Outcome → Bool) → (named : Option PrepareOk) → Statements → Statements
+heard_in link said asked ends named s = heard_in_by link (outcome_of said) asked ends named s
+
+-- it is heard: the server may be banned, and statements may have an id there or leave
+abbrev pub hears_coming : Coming → State → State
+hears_coming coming s = record s {
+  banned = bans coming.said coming.asked coming.named coming.server s.banned;
+  statements = heard_in coming.link coming.said coming.asked (ends_in coming.link s) coming.named s.statements;
 }
+
+-- and what follows on it is owed; the history has room for so many entries
+abbrev pub owes_coming : (limit handle : ℕ) → Coming → State → State
+owes_coming limit handle coming s = record s {
+  owed = owes_for handle coming.link coming.said coming.asked coming.named s.reply_number (recording_in limit s) ++ s.owed;
+}
+
+abbrev pub takes_coming : (limit : ℕ) → Coming → State → State
+takes_coming limit coming s = owes_coming limit (next_handle s.statements) coming (hears_coming coming s)
 
 -- Tries
 

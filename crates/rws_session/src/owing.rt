@@ -1,8 +1,7 @@
 //! What a session owes: it is decided on, and given out in later steps of the same turn.
 
+use rws_commands::{Ending, ProxyError};
 use rws_links::Recording;
-use rws_record::ProxyError;
-use rws_reply::Outcome;
 use rws_wire::{CloseReason, DropCause, Text};
 
 /// Something to be given out, with all that is needed for it.
@@ -17,13 +16,13 @@ pub(crate) enum Out {
         link: u64,
         packets: Text,
     },
-    /// A payload of the reply that `link` gives goes to the client, in packets from `number` on. At its last payload `outcome`
+    /// A payload of the reply that `link` gives goes to the client, in packets from `number` on. At its last payload `ending`
     /// says how the reply ended, and `recording` what that means for the session's history.
     Pass {
         number: u8,
         link: u64,
         payload: Text,
-        outcome: Option<Outcome>,
+        ending: Option<Ending>,
         recording: Recording,
     },
     /// The proxy's own OK goes to the client.

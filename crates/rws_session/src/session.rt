@@ -16,10 +16,10 @@ mod taking;
 use crate::SessionInput;
 use crate::owing::Out;
 use rws_board::Action;
+use rws_commands::{ClassedCommand, Statements};
 use rws_config::Config;
 use rws_front::Front;
-use rws_links::{ClassedCommand, Count, LinkLogin, LinkTable};
-use rws_record::Command;
+use rws_links::{Count, LinkLogin, LinkTable};
 use rws_routing::Routing;
 use rws_trx::Transaction;
 use rws_wire::Text;
@@ -51,9 +51,12 @@ pub struct Session {
     links: LinkTable,
     /// The link that the session is kept on.
     kept_on: Option<u64>,
-    /// The session's history: the commands that set something and were answered without an error, which each link plays.
-    accepted: Vec<Command>,
-    /// The servers that answered one of them by an error, and not as the one that it was first sent to.
+    /// The client's prepared statements, and the session's history: the commands that set something and were answered without an
+    /// error, which each link plays.
+    statements: Statements,
+    /// How many entries the history ever had.
+    serials: u64,
+    /// The servers that answered one of them otherwise than the one that it was first sent to.
     banned: u8,
     /// The command that isn't answered yet, whole: it may have to be sent again.
     pending: Option<ClassedCommand>,
@@ -94,7 +97,8 @@ impl Model for Session {
         login = s.login;
         links = s.links;
         kept_on = s.kept_on;
-        accepted = s.accepted.items;
+        statements = s.statements;
+        serials = s.serials;
         banned = s.banned;
         pending = s.pending;
         sent_on = s.sent_on;

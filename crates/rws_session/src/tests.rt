@@ -182,7 +182,7 @@ const TRACKED: &[u8] = b"\x1b\0\0\x01\0\x01\0\x02\x40\0\0\0\x12\0\x10\x09last_gt
 
 const UNTRACKED: &[u8] = b"\x07\0\0\x01\0\x01\0\x02\0\0\0";
 
-/// Pings, queries, a reply with session state, one in parts, and a quit behind a query.
+/// IsOwn, queries, a reply with session state, one in parts, and a quit behind a query.
 const TURNS: [Turn; 7] = [
     (From::Client, b"\x01\0\0\0\x0e\x02\0\0\0\x03", PONG, b""),
     (From::Client, b"w", b"", b"\x02\0\0\0\x03w"),

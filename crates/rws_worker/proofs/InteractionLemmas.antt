@@ -19,7 +19,7 @@ use Rattle.rws_pool.specs.Machine.{pool_from, pool_step}
 use Rattle.rws_config.specs.declared.config.Config.{Config}
 use Rattle.rws_record.specs.Item.{Item, Put}
 use Rattle.rws_record.specs.Item.Item.{Accepted, TurnsAway, Began, ClientBytes, LinkReady, LinkBytes, ClientGone, LinkLost, Ticks, Routed, Comes, Connects, Takes, Floods, Puts, Starves}
-use Rattle.rws_record.specs.Item.Put.{Hands, Tells, Routes, Opens, LogsInto, Sends, Drops, Closes}
+use Rattle.rws_record.specs.Item.Put.{Hands, Tells, Routes, Opens, LogsInto, Sends, Forgets, Drops, Closes}
 use Rattle.rws_record.specs.Outputs.{calls_of, done_for as done_by, outs_of}
 use Rattle.rws_record.specs.Run.{Entry, IsRun, next_entry, record_of, events_of, done_in, pool_events_of}
 use Rattle.rws_record.specs.Run.Entry.{Came, Heard, Did, Observes}
@@ -221,6 +221,7 @@ put_routes session (Tells number tell) = tt
 put_routes session (Opens link server login) = tt
 put_routes session (LogsInto link packets) = tt
 put_routes session (Sends link purpose) = tt
+put_routes session (Forgets link id) = tt
 put_routes session (Drops link cause) = tt
 put_routes session (Closes reason) = tt
 

@@ -4,7 +4,7 @@ use Rattle.std.proofs.lemmas.Bool.{ne_eqb, eq-eqb}
 use Rattle.rws_config.specs.declared.config.Config.{Config}
 use Rattle.rws_record.specs.Item.{Item}
 use Rattle.rws_record.specs.Item.Item.{Accepted, TurnsAway, Began, ClientBytes, LinkReady, LinkBytes, ClientGone, LinkLost, Ticks, Routed, Comes, Connects, Takes, Floods, Puts, Starves}
-use Rattle.rws_record.specs.Item.Put.{Hands, Tells, Routes, Opens, LogsInto, Sends, Drops, Closes}
+use Rattle.rws_record.specs.Item.Put.{Hands, Tells, Routes, Opens, LogsInto, Sends, Forgets, Drops, Closes}
 use Rattle.rws_record.specs.Values.{opens, links, contains, without}
 use Rattle.rws_record.specs.Run.{Entry, IsRun, record_of, owner, owner_by, last_link, link_by}
 use Rattle.rws_record.specs.Run.Entry.{Heard, Did}
@@ -101,6 +101,7 @@ still_has (Puts Routes) past link none e = e
 still_has (Puts (Opens its server login)) past link none e = absurd cc
 still_has (Puts (LogsInto to packets)) past link none e = e
 still_has (Puts (Sends to purpose)) past link none e = e
+still_has (Puts (Forgets to id)) past link none e = e
 still_has (Puts (Drops given cause)) past link none e = without_has given link (links past) e
 still_has (Puts (Closes reason)) past link none e = e
 

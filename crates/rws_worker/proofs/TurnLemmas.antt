@@ -12,7 +12,7 @@ use Rattle.rws_pool.specs.declared.words.Round.{Round}
 use Rattle.rws_config.specs.declared.config.Config.{Config}
 use Rattle.rws_record.specs.Item.{Item, Put}
 use Rattle.rws_record.specs.Item.Item.{Accepted, TurnsAway, Began, ClientBytes, LinkReady, LinkBytes, ClientGone, LinkLost, Ticks, Routed, Comes, Connects, Takes, Floods, Puts, Starves}
-use Rattle.rws_record.specs.Item.Put.{Hands, Tells, Routes, Opens, LogsInto, Sends, Drops, Closes}
+use Rattle.rws_record.specs.Item.Put.{Hands, Tells, Routes, Opens, LogsInto, Sends, Forgets, Drops, Closes}
 use Rattle.rws_record.specs.Values.{asking, opens, links, contains, is_over, is_starved}
 use Rattle.rws_record.specs.Rules.{due, next, next_by, owed, unless_asking, ◌or◌}
 use Rattle.rws_record.specs.Outputs.{actions_of, calls_of, outs_of}
@@ -134,6 +134,7 @@ put_asks session (Tells number tell) past none = plainly none refl
 put_asks session (Opens link server login) past none = plainly none refl
 put_asks session (LogsInto link packets) past none = plainly none refl
 put_asks session (Sends link purpose) past none = plainly none refl
+put_asks session (Forgets link id) past none = plainly none refl
 put_asks session (Drops link cause) past none = plainly none refl
 put_asks session (Closes reason) past none = plainly none refl
 

@@ -8,8 +8,8 @@ use Rattle.rws_msgs.specs.ErrLayout.{err_bytes}
 use Rattle.rws_board.specs.declared.action.Action.{Action}
 use Rattle.rws_board.specs.declared.action.Action.TheVariants.{ToClient, Close, Drop}
 use Rattle.rws_config.specs.declared.config.Config.{Config}
-use Rattle.rws_record.specs.declared.proxy_error.ProxyError.TheVariants.{OutOfMemory}
-use Rattle.rws_record.specs.Errors.{error_of}
+use Rattle.rws_commands.specs.declared.proxy_error.ProxyError.TheVariants.{OutOfMemory}
+use Rattle.rws_commands.specs.Errors.{error_of}
 use Rattle.rws_record.specs.Item.{Item, Put}
 use Rattle.rws_record.specs.Item.Item.{Puts, Starves}
 use Rattle.rws_record.specs.Item.Put.{Tells, Drops, Closes}

@@ -8,10 +8,10 @@ ghost use Rattle.rws_session.specs.Steps.{fresh, owes};
 
 use crate::owing::Out;
 use crate::session::Session;
+use rws_commands::{ProxyError, Statements};
 use rws_config::Config;
 use rws_front::Front;
 use rws_links::{LinkLogin, LinkTable, reserve_farewell};
-use rws_record::ProxyError;
 use rws_routing::Routing;
 use rws_trx::Transaction;
 use rws_wire::CloseReason;
@@ -110,7 +110,8 @@ impl Session {
             login,
             links,
             kept_on: None,
-            accepted: Vec::new(alloc),
+            statements: Statements::new(alloc),
+            serials: 0,
             banned: 0,
             pending: None,
             sent_on: None,

@@ -3,23 +3,23 @@ ghost use Rattle.std.specs.Prelude.{◌≡◌, ◌∷◌, ◌++◌, ℕ, List, [
 ghost use Rattle.rws_wire.specs.Packets.{spelling, number_behind};
 ghost use Rattle.rws_wire.specs.declared.drop_cause.DropCause.TheVariants as causes;
 ghost use Rattle.rws_board.specs.declared.action.Action.TheVariants as actions;
+ghost use Rattle.rws_commands.specs.declared.proxy_error.ProxyError.TheVariants as errors;
 ghost use Rattle.rws_record.specs.Rules.{after_loss_by};
 ghost use Rattle.rws_session.specs.declared.owing.Out.TheVariants as outs;
 ghost use Rattle.rws_session.specs.State.{erased};
 ghost use Rattle.rws_links.specs.declared.history.Recording.TheVariants as recordings;
 ghost use Rattle.rws_links.specs.Losses.{closing};
 ghost use Rattle.rws_session.specs.Kept.{Holds};
-ghost use Rattle.rws_session.specs.Steps.{ending_in, ends_reply, gives, leaves, loss_in, notes, refused};
+ghost use Rattle.rws_session.specs.Steps.{ending_in, ends_reply, gives, leaves, loss_in, notes, refused, statements_behind};
 
 use crate::owing::Out;
 use crate::session::Session;
 use rws_board::Action;
+use rws_commands::{Ending, ProxyError};
 use rws_links::{
     NumberedLink, Recording, answered_by, closing, is_link, is_loss, not_replayable, own_ok,
-    sends_again,
+    prepares, sends_again,
 };
-use rws_record::ProxyError;
-use rws_reply::Outcome;
 use rws_trx::Transaction;
 use rws_wire::{CloseReason, DropCause, Text, frame};
 use std::alloc::AllocError;
@@ -38,9 +38,9 @@ impl Session {
                 number,
                 link,
                 payload,
-                outcome,
+                ending,
                 recording,
-            } => self.pass(number, link, payload.as_slice(), outcome, recording),
+            } => self.pass(number, link, payload.as_slice(), ending, recording),
             Out::Own { number, status } => self.tell_own(number, &own_ok(status)),
             Out::Refuse { number, error } => self.refuse(number, error),
             Out::Drop { link, cause } => self.drop_link(link, cause),
@@ -111,26 +111,36 @@ impl Session {
         ensures { self.new ≡ record self.old { state = refused error self.old.state } }
     {
         if error == ProxyError::NoPrimary {
-            self.pending = None;
-            self.routing = self.routing.stopped();
+            self.end_unsent();
         }
     }
 
-    /// Passes a payload of the reply to the pending command on; the last one comes with an outcome.
+    /// The pending command was answered that there is no primary.
+    fn end_unsent(&mut self)
+        ensures { self.new ≡ record self.old { state = refused errors.NoPrimary self.old.state } }
+    {
+        if prepares(&self.pending) {
+            self.statements.prepare_failed();
+        }
+        self.pending = None;
+        self.routing = self.routing.stopped();
+    }
+
+    /// Passes a payload of the reply to the pending command on; the last one comes with how the reply ended.
     fn pass(
         &mut self,
         number: u8,
         link: u64,
         payload: &[u8],
-        outcome: Option<Outcome>,
+        ending: Option<Ending>,
         recording: Recording,
     ) -> Result<(), AllocError>
-        ensures ok { OnOk result (self.new ≡ gives (outs.Pass number link payload.now outcome recording) self.old) }
+        ensures ok { OnOk result (self.new ≡ gives (outs.Pass number link payload.now ending recording) self.old) }
         ensures err { OnErr result (Holds self.old self.new) }
     {
-        match outcome {
+        match ending {
             None => self.pass_part(number, link, payload),
-            Some(outcome) => self.pass_last(number, link, payload, outcome, recording),
+            Some(ending) => self.pass_last(number, link, payload, ending, recording),
         }
     }
 
@@ -150,34 +160,60 @@ impl Session {
         number: u8,
         link: u64,
         payload: &[u8],
-        outcome: Outcome,
+        ending: Ending,
         recording: Recording,
     ) -> Result<(), AllocError>
-        ensures ok { OnOk result (self.new ≡ gives (outs.Pass number link payload.now (Some outcome) recording) self.old) }
+        ensures ok { OnOk result (self.new ≡ gives (outs.Pass number link payload.now (Some ending) recording) self.old) }
         ensures err { OnErr result (Holds self.old self.new) }
     {
         let transaction = answered_by(
             self.kept_on,
             &self.pending,
             link,
-            outcome,
+            ending.outcome,
             self.routing,
             self.transaction,
         );
+        self.answer_pending(link, ending, recording)?;
         self.note(link, recording)?;
         let next = self.tell(number, payload)?;
         self.end_reply(next, link, transaction, recording);
         Ok(())
     }
 
-    /// Notes what the end of a reply on this link means for the history, as far as that takes memory.
+    /// The pending command was answered so on a link: what that means for the client's statements, and for the history.
+    fn answer_pending(
+        &mut self,
+        link: u64,
+        ending: Ending,
+        recording: Recording,
+    ) -> Result<(), AllocError>
+        ensures ok { OnOk result (self.new ≡ record self.old {
+          state = record self.old.state { statements = statements_behind link ending recording self.old.state; pending = None };
+        }) }
+        ensures holds { Holds self.old self.new }
+    {
+        let serial = match recording {
+            Recording::Accepts => Some(self.serials),
+            Recording::Nothing | Recording::Keeps => None,
+        };
+        match self.pending.take() {
+            None => Ok(()),
+            Some(command) => {
+                self.statements
+                    .answered(link, command, ending.outcome, ending.named, serial)
+            }
+        }
+    }
+
+    /// Notes what the end of a reply on this link means for the history, as far as links and what is owed go.
     fn note(&mut self, link: u64, recording: Recording) -> Result<(), AllocError>
         ensures ok { OnOk result (self.new ≡ record self.old { state = notes link recording self.old.state }) }
         ensures holds { Holds self.old self.new }
     {
         match recording {
             Recording::Nothing => Ok(()),
-            Recording::Accepts => self.accept_pending(link),
+            Recording::Accepts => self.count_entry(link),
             Recording::Keeps => {
                 let keeping = self.kept_on.is_none();
                 self.owe_keeping(keeping, link)
@@ -185,21 +221,22 @@ impl Session {
         }
     }
 
-    /// The pending command, which this link led, is added to the history.
-    fn accept_pending(&mut self, link: u64) -> Result<(), AllocError>
+    /// There is one more entry of the history, which this link led.
+    fn count_entry(&mut self, link: u64) -> Result<(), AllocError>
         ensures ok { OnOk result (self.new ≡ record self.old { state = notes link recordings.Accepts self.old.state }) }
         ensures holds { Holds self.old self.new }
     {
-        self.links.lead(link)?;
-        if let Some(command) = self.pending.take() {
-            self.accepted.push(command.into_command())?;
-        }
+        let Some(more) = self.serials.checked_add(1) else {
+            return Err(AllocError);
+        };
+        self.links.lead(link, self.serials)?;
+        self.serials = more;
         Ok(())
     }
 
     /// The client has the last payload of the reply, behind which the transaction is this one.
     fn end_reply(&mut self, next: u8, link: u64, transaction: Transaction, recording: Recording)
-        ensures { self.new ≡ record self.old { state = ends_reply next link transaction recording self.old.state } }
+        ensures { self.new ≡ record self.old { state = ends_reply next link transaction self.old.state.statements recording self.old.state } }
     {
         self.transaction = transaction;
         self.reply_number = next;
@@ -221,6 +258,7 @@ impl Session {
         }
         self.outs.push_back(Action::Drop { link, cause })?;
         self.links.remove(link);
+        self.statements.drop_link(link);
         self.leave_link(link);
         Ok(())
     }

@@ -103,6 +103,7 @@ impl Session {
         ensures err { OnErr result (Holds (record self.old { state = record self.old.state { links = without_number link self.old.state.links } }) self.new) }
     {
         self.links.remove(link);
+        self.statements.drop_link(link);
         self.owe_loss(link)?;
         self.leave_link(link);
         Ok(())

@@ -1,24 +1,24 @@
 //! What comes on the links is read, one thing after the other.
 ghost use Rattle.std.specs.Prelude.{◌≡◌, ◌++◌, ℕ, List, [], map, IfOk, OnErr, OnOk};
+ghost use Rattle.rws_commands.specs.Statements.{swept_if};
 ghost use Rattle.rws_record.specs.Item.{Item};
 ghost use Rattle.rws_record.specs.Values.{links};
-ghost use Rattle.rws_record.specs.Rules.{after_played, after_preparing, due_arrival, form_of, owed, unasked};
+ghost use Rattle.rws_record.specs.Rules.{after_preparing, differing, due_arrival, form_of, owed, unasked};
 ghost use Rattle.rws_links.specs.Links.{link_of};
-ghost use Rattle.rws_links.specs.Table.{AreDistinct, ReadsFirst, bans};
+ghost use Rattle.rws_links.specs.Table.{AreDistinct, ReadsFirst};
 ghost use Rattle.rws_session.specs.Kept.{Holds, Is};
-ghost use Rattle.rws_session.specs.Steps.{Tries, is_full_in, owes, owes_for, owes_reply, recording_in, takes_coming};
+ghost use Rattle.rws_session.specs.Steps.{Tries, ended_in, ends_in, hears_coming, outcome_of, owes, owes_coming, owes_played, owes_reply, played_if, recording_in, takes_coming};
 
 use crate::owing::Out;
 use crate::session::Session;
+use rws_commands::{Ending, PreparedAs, is_otherwise};
 use rws_config::Config;
 use rws_link::LinkStep;
-use rws_links::{Asked, Coming, Recording, drop_cause, sets_session};
+use rws_links::{Asked, Coming, Recording, drop_cause, ends_by, sets_session};
+use rws_msgs::PrepareOk;
 use rws_reply::{Outcome, Progress, Role, client_payload};
 use rws_wire::{DropCause, Text};
 use std::alloc::AllocError;
-
-/// The handle that a prepared statement has for its client. None is prepared yet, so no payload of a reply names one.
-const PREPARED_HANDLE: u32 = 0;
 
 impl Session {
     /// Asks the links, in order of number, up to the first that has something to say.
@@ -51,27 +51,86 @@ impl Session {
         ensures ok { OnOk result (self.new ≡ record self.old { state = takes_coming config.now.history_limit coming self.old.state }) }
         ensures err { OnErr result (Holds self.old self.new) }
     {
-        self.ban(&coming);
-        self.owe_coming(coming, config)
+        let handle = self.statements.next_handle();
+        self.hear_coming(&coming)?;
+        self.owe_coming(coming, handle, config)
     }
 
-    /// The link's server is banned, if it answers an entry of the history by an error.
-    fn ban(&mut self, coming: &Coming)
-        ensures { self.new ≡ record self.old {
-          state = record self.old.state { banned = bans coming.now.said coming.now.asked coming.now.server self.old.state.banned };
-        } }
+    /// The link's server is banned, if it answers an entry of the history otherwise; and statements may have an id there, or leave.
+    fn hear_coming(&mut self, coming: &Coming) -> Result<(), AllocError>
+        ensures ok { OnOk result (self.new ≡ record self.old { state = hears_coming coming.now self.old.state }) }
+        ensures holds { Holds self.old self.new }
     {
         self.banned = coming.bans(self.banned);
+        match outcome_of(&coming.said) {
+            None => Ok(()),
+            Some(outcome) => self.hear_end(coming, outcome),
+        }
     }
 
-    /// Decides what follows on what a link says.
-    fn owe_coming(&mut self, coming: Coming, config: &Config) -> Result<(), AllocError>
+    /// A reply on a link ended so.
+    fn hear_end(&mut self, coming: &Coming, outcome: Outcome) -> Result<(), AllocError>
         ensures ok { OnOk result (self.new ≡ record self.old {
           state = record self.old.state {
-            owed = owes_for coming.link coming.said coming.asked self.old.state.reply_number (recording_in config.now.history_limit self.old.state)
-                ++ self.old.state.owed;
+            statements = ended_in coming.now.link outcome coming.now.asked (ends_in coming.now.link self.old.state) coming.now.named self.old.state.statements;
           };
         }) }
+        ensures holds { Holds self.old self.new }
+    {
+        match coming.asked {
+            Some(Asked::Command) => {
+                self.sweep_behind(coming.link, outcome);
+                Ok(())
+            }
+            Some(Asked::Entry { serial, statement }) => {
+                self.name_played(coming.link, serial, statement, coming.named, outcome)
+            }
+            Some(Asked::Preamble) | None => Ok(()),
+        }
+    }
+
+    /// The statements leave that were closed in the transaction, if that ends with the reply of a link that ended so.
+    fn sweep_behind(&mut self, link: u64, outcome: Outcome)
+        ensures { self.new ≡ record self.old {
+          state = record self.old.state { statements = swept_if (ends_in link self.old.state outcome) self.old.state.statements };
+        } }
+    {
+        let ends = ends_by(
+            self.kept_on,
+            &self.pending,
+            link,
+            outcome,
+            self.routing,
+            self.transaction,
+        );
+        if ends {
+            self.statements.sweep();
+        }
+    }
+
+    /// The link's server has an id for the statement of an entry that it was played without an error.
+    fn name_played(
+        &mut self,
+        link: u64,
+        serial: u64,
+        statement: Option<PreparedAs>,
+        named: Option<PrepareOk>,
+        outcome: Outcome,
+    ) -> Result<(), AllocError>
+        ensures ok { OnOk result (self.new ≡ record self.old {
+          state = record self.old.state { statements = played_if link serial statement named outcome self.old.state.statements };
+        }) }
+        ensures holds { Holds self.old self.new }
+    {
+        match outcome {
+            Outcome::Failed { .. } => Ok(()),
+            Outcome::Done { .. } => self.statements.played(link, serial, statement, named),
+        }
+    }
+
+    /// Decides what follows on what a link says, where the next statement's handle is this.
+    fn owe_coming(&mut self, coming: Coming, handle: u32, config: &Config) -> Result<(), AllocError>
+        ensures ok { OnOk result (self.new ≡ record self.old { state = owes_coming config.now.history_limit handle coming self.old.state }) }
         ensures err { OnErr result (Holds self.old self.new) }
     {
         let Coming {
@@ -79,6 +138,7 @@ impl Session {
             server: _,
             said,
             asked,
+            named,
         } = coming;
         match said {
             LinkStep::Part {
@@ -89,9 +149,15 @@ impl Session {
                 behind,
             } => match asked {
                 Some(Asked::Command) => {
-                    self.take_part(link, payload, role, progress, behind, config)
+                    let form = self.form_of(handle, role, payload)?;
+                    self.take_reply(link, form, named, progress, behind, config)
                 }
-                Some(Asked::Entry) => self.take_played(link, progress, behind),
+                Some(
+                    Asked::Entry {
+                        serial: _,
+                        statement,
+                    },
+                ) => self.take_played(link, statement, named, progress, behind),
                 Some(Asked::Preamble) => self.take_prepared(link, progress, behind),
                 None => Ok(()),
             },
@@ -104,19 +170,42 @@ impl Session {
         }
     }
 
-    /// A payload of the reply to an entry of the history came.
-    fn take_played(&mut self, link: u64, progress: Progress, behind: bool) -> Result<(), AllocError>
-        ensures ok { OnOk result (self.new ≡ record self.old { state = owes (after_played link progress behind) self.old.state }) }
+    /// A payload of the reply to an entry of the history came, which prepares this.
+    fn take_played(
+        &mut self,
+        link: u64,
+        statement: Option<PreparedAs>,
+        named: Option<PrepareOk>,
+        progress: Progress,
+        behind: bool,
+    ) -> Result<(), AllocError>
+        ensures ok { OnOk result (self.new ≡ record self.old { state = owes (owes_played link statement named progress behind) self.old.state }) }
         ensures err { OnErr result (Holds self.old self.new) }
     {
         match progress {
             Progress::More => Ok(()),
-            Progress::Whole(Outcome::Done { .. }) => self.owe_unasked(link, behind),
+            Progress::Whole(Outcome::Done { .. }) => {
+                self.owe_differing(link, is_otherwise(statement, named), behind)
+            }
             Progress::Whole(Outcome::Failed { .. }) => self.owe(Out::Drop {
                 link,
                 cause: DropCause::SessionDiffers,
             }),
         }
+    }
+
+    /// A link that differs is given up; a byte behind a whole reply costs any other, too.
+    fn owe_differing(&mut self, link: u64, otherwise: bool, behind: bool) -> Result<(), AllocError>
+        ensures ok { OnOk result (self.new ≡ record self.old { state = owes (differing link otherwise behind) self.old.state }) }
+        ensures err { OnErr result (Holds self.old self.new) }
+    {
+        if otherwise {
+            return self.owe(Out::Drop {
+                link,
+                cause: DropCause::SessionDiffers,
+            });
+        }
+        self.owe_unasked(link, behind)
     }
 
     /// A payload of the reply to a link's preamble came.
@@ -139,26 +228,12 @@ impl Session {
         }
     }
 
-    /// A payload of the pending command's reply came: it goes to the client in the client's form.
-    fn take_part(
-        &mut self,
-        link: u64,
-        payload: Text,
-        role: Role,
-        progress: Progress,
-        behind: bool,
-        config: &Config,
-    ) -> Result<(), AllocError>
-        ensures ok { OnOk result (self.new ≡ record self.old {
-          state = record self.old.state {
-            owed = owes_reply link (form_of role payload) progress behind self.old.state.reply_number
-                (recording_in config.now.history_limit self.old.state) ++ self.old.state.owed;
-          };
-        }) }
-        ensures err { OnErr result (Holds self.old self.new) }
+    /// The form in which the client gets a payload of this role.
+    fn form_of(&self, handle: u32, role: Role, payload: Text) -> Result<Text, AllocError>
+        ensures { IfOk result (λ form. form ≡ form_of handle role payload) }
     {
-        let form = client_payload(self.alloc, role, payload.as_slice(), PREPARED_HANDLE)?;
-        self.take_reply(link, form.unwrap_or(payload), progress, behind, config)
+        let form = client_payload(self.alloc, role, payload.as_slice(), handle)?;
+        Ok(form.unwrap_or(payload))
     }
 
     /// Decides what follows on a payload of the pending command's reply, in the client's form.
@@ -166,13 +241,14 @@ impl Session {
         &mut self,
         link: u64,
         payload: Text,
+        named: Option<PrepareOk>,
         progress: Progress,
         behind: bool,
         config: &Config,
     ) -> Result<(), AllocError>
         ensures ok { OnOk result (self.new ≡ record self.old {
           state = record self.old.state {
-            owed = owes_reply link payload progress behind self.old.state.reply_number (recording_in config.now.history_limit self.old.state)
+            owed = owes_reply link payload named progress behind self.old.state.reply_number (recording_in config.now.history_limit self.old.state)
                 ++ self.old.state.owed;
           };
         }) }
@@ -184,7 +260,7 @@ impl Session {
                 number,
                 link,
                 payload,
-                outcome: None,
+                ending: None,
                 recording: Recording::Nothing,
             }),
             Progress::Whole(outcome) => {
@@ -194,7 +270,7 @@ impl Session {
                     number,
                     link,
                     payload,
-                    outcome: Some(outcome),
+                    ending: Some(Ending { outcome, named }),
                     recording,
                 })
             }
@@ -208,16 +284,9 @@ impl Session {
         Recording::of(
             sets_session(&self.pending),
             self.kept_on.is_some(),
-            self.is_full(config),
+            self.statements.is_full(config.history_limit),
             outcome,
         )
-    }
-
-    /// The history has no room for an entry.
-    pub(super) fn is_full(&self, config: &Config) -> bool
-        ensures { result ≡ is_full_in config.now.history_limit self.now.state }
-    {
-        self.accepted.len() as u64 >= u64::from(config.history_limit)
     }
 
     /// A byte behind a whole reply costs the link.
@@ -232,5 +301,18 @@ impl Session {
             });
         }
         Ok(())
+    }
+}
+
+/// How the reply ended that is whole with what a link says.
+fn outcome_of(said: &LinkStep) -> Option<Outcome>
+    ensures { result ≡ outcome_of said.now }
+{
+    match said {
+        LinkStep::Part {
+            progress: Progress::Whole(outcome),
+            ..
+        } => Some(*outcome),
+        _ => None,
     }
 }

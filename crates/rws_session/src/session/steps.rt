@@ -3,29 +3,36 @@
 //! What is owed comes first. Where nothing is owed and the session isn't over, the worker is asked where the pending command is
 //! to go, the links are sent what is due on them, then a flood behind the command is refused, then what came on the links is read,
 //! and then what came of the client is taken up.
-ghost use Rattle.std.specs.Prelude.{◌≡◌, ◌+◌, ◌∷◌, ◌++◌, ℕ, length, List, [], map, Some, None, IfOk, OnErr, OnOk, IfSome, MatchOption, is_some, slice_get, false, true, if◌then◌else◌};
+ghost use Rattle.std.specs.Prelude.{◌≡◌, ◌&&◌, ◌+◌, ◌∷◌, ◌++◌, ℕ, length, List, [], map, Some, None, IfOk, OnErr, OnOk, IfSome, MatchOption, is_some, false, true, if◌then◌else◌};
+ghost use Rattle.rws_wire.specs.Packets.{spelling};
 ghost use Rattle.rws_wire.specs.declared.drop_cause.DropCause.TheVariants as causes;
+ghost use Rattle.rws_board.specs.declared.action.Action.TheVariants as actions;
 ghost use Rattle.rws_config.specs.declared.config.Config.{Config};
+ghost use Rattle.rws_commands.specs.Commands.{asked_under};
+ghost use Rattle.rws_commands.specs.Statements.{forgotten, stale_on, unplayed};
 ghost use Rattle.rws_record.specs.Item.{Item};
 ghost use Rattle.rws_record.specs.Item.Purpose.{Asks, Plays, Prepares};
-ghost use Rattle.rws_record.specs.Values.{asking, links};
-ghost use Rattle.rws_record.specs.Rules.{after_flood, due_flood, due_route, due_sends, flood_by, flood_limit, next, owed};
-ghost use Rattle.rws_links.specs.Finding.{first_due};
+ghost use Rattle.rws_record.specs.Outputs.{close_bytes};
+ghost use Rattle.rws_record.specs.Values.{asking, contains, is_up, linked, links};
+ghost use Rattle.rws_record.specs.Rules.{after_flood, due_flood, due_route, due_sends, flood_by, flood_limit, is_ready, is_same, next, owed};
+ghost use Rattle.rws_links.specs.declared.finding.DueKind.TheVariants as kinds;
 ghost use Rattle.rws_links.specs.Links.{link_of};
 ghost use Rattle.rws_links.specs.Table.{AreDistinct, SendsOn, without_number};
 ghost use Rattle.rws_session.specs.declared.owing.Out.TheVariants as outs;
 ghost use Rattle.rws_session.specs.Kept.{Holds, Is};
-ghost use Rattle.rws_session.specs.Steps.{SendsEntry, SendsPending, SendsPreamble, Tries, due_put, going, is_unrouted, others_dropped, owes, unsent};
+ghost use Rattle.rws_session.specs.Steps.{SendsClose, SendsEntry, SendsPending, SendsPreamble, Tries, due_put, found_due, going, id_in, is_keeping, is_unrouted, others_dropped, owes, unsent};
 
 use crate::owing::Out;
 use crate::session::Session;
 use rws_board::Action;
+use rws_commands::{ClassedCommand, ProxyError, put_asked};
 use rws_config::{Config, FLOOD_ROOM};
-use rws_links::{Asked, Due, NumberedLink};
-use rws_record::{ProxyError, preamble};
+use rws_links::{Asked, Due, DueKind, NumberedLink};
+use rws_msgs::command::COM_STMT_CLOSE;
+use rws_record::preamble;
 use rws_reply::Kind;
-use rws_wire::{CloseReason, DropCause, Text};
-use std::alloc::AllocError;
+use rws_wire::{CloseReason, DropCause, PayloadList, Text};
+use std::alloc::{AllocError, Global};
 use std::collections::VecDeque;
 
 impl Session {
@@ -123,25 +130,92 @@ impl Session {
         }
     }
 
-    /// Sends what is due first.
+    /// Sends what is due first. Before an entry or a command the link's server is told to close a statement that has left.
     fn send_due(&mut self, due: Due) -> Result<bool, AllocError>
         ensures ok { (config : Config) (past : List Item) → Is config self.old past → owed config past ≡ []
-            → first_due (unsent self.old.state) (length self.old.state.accepted) self.old.state.links ≡ Some due
+            → found_due self.old.state ≡ Some due
             → IfOk result (λ went. Tries config (due_sends config (links past) past) past went self.old self.new) }
         ensures err { OnErr result (Holds self.old self.new) }
     {
-        match due.asked {
-            Asked::Preamble => self.send_preamble(due.link),
-            Asked::Entry => self.send_entry(due.link, due.entry),
-            Asked::Command => self.send_pending(due.link),
+        match due.what {
+            DueKind::Preamble => self.send_preamble(due.link),
+            DueKind::Entry => self.play(due.link, due.entry),
+            DueKind::Command => self.ask_on(due.link, due.entry),
         }
+    }
+
+    /// The next entry from this serial on is due on a link.
+    fn play(&mut self, link: u64, serial: u64) -> Result<bool, AllocError>
+        ensures ok { (config : Config) (past : List Item) → Is config self.old past → owed config past ≡ []
+            → found_due self.old.state ≡ Some (record { link = link; what = kinds.Entry; entry = serial })
+            → IfOk result (λ went. Tries config (due_sends config (links past) past) past went self.old self.new) }
+        ensures err { OnErr result (Holds self.old self.new) }
+    {
+        if !self.has_unplayed(serial) {
+            return Ok(false);
+        }
+        match self.take_stale(link) {
+            Some(id) => self.send_close(link, id),
+            None => self.send_entry(link, serial),
+        }
+    }
+
+    /// The pending command is due on a link, which has played all entries below this serial.
+    fn ask_on(&mut self, link: u64, serial: u64) -> Result<bool, AllocError>
+        ensures ok { (config : Config) (past : List Item) → Is config self.old past → owed config past ≡ []
+            → found_due self.old.state ≡ Some (record { link = link; what = kinds.Command; entry = serial })
+            → IfOk result (λ went. Tries config (due_sends config (links past) past) past went self.old self.new) }
+        ensures err { OnErr result (Holds self.old self.new) }
+    {
+        if !self.is_busy() {
+            return Ok(false);
+        }
+        match self.take_stale(link) {
+            Some(id) => self.send_close(link, id),
+            None => self.send_pending(link),
+        }
+    }
+
+    /// The history has an entry from this serial on.
+    fn has_unplayed(&self, serial: u64) -> bool
+        ensures { result ≡ is_some (unplayed serial self.now.state.statements) }
+    {
+        self.statements.unplayed(serial).is_some()
+    }
+
+    /// The least id that a link's server is to close, which is forgotten.
+    fn take_stale(&mut self, link: u64) -> Option<u32>
+        ensures result { result ≡ stale_on link self.old.state.statements }
+        ensures rest { self.new ≡ record self.old { state = record self.old.state { statements = forgotten link self.old.state.statements } } }
+        ensures none { result ≡ None → self.new ≡ self.old }
+    {
+        self.statements.take_stale(link)
+    }
+
+    /// Tells a link's server to close a statement, if the link may be sent that.
+    fn send_close(&mut self, link: u64, id: u32) -> Result<bool, AllocError>
+        ensures sends { IfOk result (λ went. SendsClose link id went self.old self.new) }
+        ensures links { (past : List Item) (numbers : List ℕ) → self.old.state.links ≡ map (link_of past) numbers → AreDistinct numbers
+            → IfOk result (λ went. (went ≡ (contains link numbers && (is_same true (is_up link past) && is_ready (linked link past))))
+            × (self.new.state.links ≡ self.old.state.links)) }
+        ensures err { OnErr result (Holds self.old self.new) }
+    {
+        let mut packets = PayloadList::new(self.alloc);
+        if !self
+            .links
+            .send_silent(link, &close_bytes(id), &mut packets)?
+        {
+            return Ok(false);
+        }
+        self.put_out(link, &packets)?;
+        Ok(true)
     }
 
     /// The first link on which something is due, and what.
     fn due(&self) -> Option<Due>
-        ensures { result ≡ first_due (unsent self.now.state) (length self.now.state.accepted) self.now.state.links }
+        ensures { result ≡ found_due self.now.state }
     {
-        self.links.due(self.unsent(), self.accepted.len())
+        self.links.due(self.unsent(), self.statements.last_serial())
     }
 
     /// The link that the pending command is to go on, where it isn't sent yet.
@@ -165,7 +239,7 @@ impl Session {
         let asked = Asked::Preamble;
         if !self
             .links
-            .send(link, asked, preamble(), Kind::Query, &mut bytes)?
+            .send_one(link, asked, preamble(), Kind::Query, &mut bytes)?
         {
             return Ok(false);
         }
@@ -176,18 +250,18 @@ impl Session {
         Ok(true)
     }
 
-    /// Sends an entry of the history on a link, if there is this one and the link may be sent it.
-    fn send_entry(&mut self, link: u64, entry: usize) -> Result<bool, AllocError>
-        ensures sends { IfOk result (λ went. SendsEntry link (slice_get self.old.state.accepted entry) went self.old self.new) }
+    /// Sends the next entry of the history from this serial on, if there is one and the link may be sent it.
+    fn send_entry(&mut self, link: u64, serial: u64) -> Result<bool, AllocError>
+        ensures sends { IfOk result (λ went. SendsEntry link (unplayed serial self.old.state.statements) went self.old self.new) }
         ensures links { (past : List Item) (numbers : List ℕ) → self.old.state.links ≡ map (link_of past) numbers → AreDistinct numbers
-            → IfSome (slice_get self.old.state.accepted entry) (λ command. IfOk result (λ went. SendsOn link (Plays command) past numbers went self.new.state.links)) }
+            → IfSome (unplayed serial self.old.state.statements) (λ entry. IfOk result (λ went. SendsOn link (Plays entry) past numbers went self.new.state.links)) }
         ensures err { OnErr result (Holds self.old self.new) }
     {
-        let Some(command) = self.accepted.get(entry) else {
+        let Some(entry) = self.statements.unplayed(serial) else {
             return Ok(false);
         };
         let mut bytes = Vec::new(self.alloc);
-        if !self.links.send_entry(link, command, &mut bytes)? {
+        if !self.links.send_entry(link, entry, &mut bytes)? {
             return Ok(false);
         }
         self.outs.push_back(Action::ToLink {
@@ -201,27 +275,50 @@ impl Session {
     fn send_pending(&mut self, link: u64) -> Result<bool, AllocError>
         ensures sends { IfOk result (λ went. SendsPending link self.old.state.pending went self.old self.new) }
         ensures links { (past : List Item) (numbers : List ℕ) → self.old.state.links ≡ map (link_of past) numbers → AreDistinct numbers
-            → IfSome self.old.state.pending (λ command. IfOk result (λ went. SendsOn link (Asks command) past numbers went self.new.state.links)) }
+            → IfSome self.old.state.pending (λ command. IfOk result (λ went. SendsOn link (Asks command (id_in link command self.old.state)) past numbers went self.new.state.links)) }
         ensures err { OnErr result (Holds self.old self.new) }
     {
         let Some(command) = &self.pending else {
             return Ok(false);
         };
-        let keeping = command.keeps() && self.kept_on.is_none();
-        let mut bytes = Vec::new(self.alloc);
-        if !self
-            .links
-            .send_command(link, command.command(), &mut bytes)?
-        {
+        let keeping = is_keeping(command, self.kept_on);
+        let mut packets = PayloadList::new(self.alloc);
+        if !self.send_asked(link, &mut packets)? {
             return Ok(false);
         }
         self.owe_keeping(keeping, link)?;
-        self.outs.push_back(Action::ToLink {
-            link,
-            bytes: Text::new(bytes),
-        })?;
+        self.put_out(link, &packets)?;
         self.note_sent(keeping, link);
         Ok(true)
+    }
+
+    /// Lets a link send what asks a server by the pending command; the packets of each payload are appended to `out`.
+    fn send_asked(&mut self, link: u64, out: &mut PayloadList) -> Result<bool, AllocError>
+        ensures sends { IfSome self.old.state.pending (λ command. IfOk result (λ went. out.new
+            ≡ out.old ++ (if went then map (spelling 0) (asked_under (id_in link command self.old.state) command.body) else []))) }
+        ensures rest { self.new ≡ record self.old { state = record self.old.state { links = self.new.state.links } } }
+        ensures links { (past : List Item) (numbers : List ℕ) → self.old.state.links ≡ map (link_of past) numbers → AreDistinct numbers
+            → IfSome self.old.state.pending (λ command. IfOk result (λ went. SendsOn link (Asks command (id_in link command self.old.state)) past numbers went self.new.state.links)) }
+        ensures holds { Holds self.old self.new }
+    {
+        let Some(command) = &self.pending else {
+            return Ok(false);
+        };
+        let id = self.statements.id_for(link, command.command());
+        let mut payloads = PayloadList::new(self.alloc);
+        put_asked(self.alloc, id, command.command(), &mut payloads)?;
+        self.links
+            .send_command(link, id, command.command(), &payloads, out)
+    }
+
+    /// Packets go on a link, each as an output of its own.
+    fn put_out(&mut self, link: u64, packets: &PayloadList) -> Result<(), AllocError>
+        ensures ok { OnOk result (self.new ≡ record self.old { outs = self.old.outs ++ map (λ bytes. actions.ToLink link bytes) packets.now }) }
+        ensures err { OnErr result (Holds self.old self.new) }
+    {
+        let mut more = VecDeque::new(self.alloc);
+        put_each(self.alloc, link, packets.as_slice(), &mut more)?;
+        self.outs.append(&mut more)
     }
 
     /// Where the session is to be kept on this link, the others are given up.
@@ -331,6 +428,40 @@ fn drop_others(
                 cause: DropCause::Kept,
             })?;
             Ok(())
+        }
+    }
+}
+
+/// A command keeps the session on the link that it is sent on, which wasn't kept on one before.
+fn is_keeping(command: &ClassedCommand, kept_on: Option<u64>) -> bool
+    ensures { result ≡ is_keeping command.now kept_on }
+{
+    command.keeps() && kept_on.is_none()
+}
+
+/// COM_STMT_CLOSE of the statement that a server has under this id.
+fn close_bytes(id: u32) -> [u8; 5]
+    ensures { result ≡ close_bytes id }
+{
+    let [a, b, c, d] = id.to_le_bytes();
+    [COM_STMT_CLOSE, a, b, c, d]
+}
+
+/// Packets go on a link, one after the other. After an `Err` some of them do.
+fn put_each(
+    alloc: Global,
+    link: u64,
+    packets: &[Text],
+    outs: &mut VecDeque<Action>,
+) -> Result<(), AllocError>
+    ensures { OnOk result (outs.new.items ≡ outs.old.items ++ map (λ bytes. actions.ToLink link bytes) packets.now) }
+{
+    match packets {
+        [] => Ok(()),
+        [first, others @ ..] => {
+            let bytes = Text::from_slice(alloc, first.as_slice())?;
+            outs.push_back(Action::ToLink { link, bytes })?;
+            put_each(alloc, link, others, outs)
         }
     }
 }

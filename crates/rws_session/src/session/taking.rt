@@ -1,24 +1,23 @@
 //! What comes of the client is taken up, one thing after the other: the steps of its login, and then its commands.
-ghost use Rattle.std.specs.Prelude.{◌≡◌, [], ◌∷◌, List, Some, IfOk, OnErr, OnOk};
+ghost use Rattle.std.specs.Prelude.{◌≡◌, [], ◌∷◌, List, IfOk, OnErr, OnOk};
 ghost use Rattle.rws_front.specs.Connection.{step_of};
 ghost use Rattle.rws_front.specs.Names.{IsNamed};
 ghost use Rattle.rws_record.specs.Item.{Item};
 ghost use Rattle.rws_record.specs.Item.Put.{Closes, Hands};
-ghost use Rattle.rws_record.specs.Item.Judged.{Serves};
-ghost use Rattle.rws_record.specs.Judging.{accepted_as, class_refusal, judged};
-ghost use Rattle.rws_record.specs.Requests.{class_by, request_of};
-ghost use Rattle.rws_record.specs.Rules.{due_take, owed};
+ghost use Rattle.rws_commands.specs.declared.judged.Judged.TheVariants.{HasTooMuch};
+ghost use Rattle.rws_commands.specs.Judging.{judged};
+ghost use Rattle.rws_commands.specs.Statements.{taken_as};
+ghost use Rattle.rws_trx.specs.Transactions.{is_open};
+ghost use Rattle.rws_record.specs.Rules.{after_command, due_take, owed};
 ghost use Rattle.rws_session.specs.Kept.{Holds, Is};
-ghost use Rattle.rws_session.specs.Steps.{TakesSaid, Tries, answers, begins_reply, context_in, owes, recounted, takes};
+ghost use Rattle.rws_session.specs.Steps.{TakesSaid, Tries, answers, begins_reply, owes, recounted, situation_in, takes};
 
 use crate::owing::Out;
 use crate::session::Session;
-use rws_class::Class;
+use rws_commands::{Judged, ProxyError, Situation};
 use rws_config::Config;
 use rws_front::FrontStep;
-use rws_links::{ClassedCommand, LinkLogin, changes, is_forbidden};
-use rws_record::{ProxyError, Request};
-use rws_reply::Kind;
+use rws_links::LinkLogin;
 use rws_routing::Routing;
 use rws_trx::Open;
 use rws_wire::{CloseReason, Payload, Text};
@@ -60,7 +59,7 @@ impl Session {
     /// Takes up what came of the client: a command, a step of the login, or that its packets can't be read on.
     fn take_said(&mut self, said: FrontStep, config: &Config) -> Result<bool, AllocError>
         requires { IsNamed said }
-        ensures ok { IfOk result (λ went. TakesSaid (context_in config.now.history_limit self.old.state) said went self.old self.new) }
+        ensures ok { IfOk result (λ went. TakesSaid (situation_in config.now self.old.state) self.old.state.statements said went self.old self.new) }
         ensures err { OnErr result (Holds self.old self.new) }
     {
         match said {
@@ -96,72 +95,77 @@ impl Session {
     /// Takes up a command, whose reply begins with the packet number `number`.
     fn take(&mut self, payload: Text, number: u8, config: &Config) -> Result<(), AllocError>
         ensures ok { OnOk result (self.new ≡ record self.old {
-          state = takes (judged (context_in config.now.history_limit self.old.state) payload number) number self.old.state;
+          state = takes (judged (situation_in config.now self.old.state) self.old.state.statements payload number) payload number self.old.state;
         }) }
         ensures err { OnErr result (Holds self.old self.new) }
     {
+        let judgement = self.judge(payload, number, config)?;
         self.begin_reply(number);
-        match Request::of(payload.as_slice()) {
-            Request::Quit => self.owe(Out::Close {
-                reason: CloseReason::Quit,
-            }),
-            Request::Ping => {
-                let state = self.transaction.state;
-                self.owe(Out::Own {
-                    number,
-                    status: state.status(),
-                })
-            }
-            Request::Query => self.take_for_server(Kind::Query, payload, number, config),
-            Request::FieldList => self.take_for_server(Kind::FieldList, payload, number, config),
-            Request::InitDb => self.take_for_server(Kind::Simple, payload, number, config),
-            Request::Unsupported => self.owe(Out::Refuse {
-                number,
-                error: ProxyError::NotSupported,
-            }),
-            Request::Unknown => self.owe(Out::Refuse {
-                number,
-                error: ProxyError::UnknownCommand,
-            }),
+        self.answer_command(judgement, number)
+    }
+
+    /// What a command is taken for, and what that changes in the client's statements.
+    fn judge(&mut self, payload: Text, number: u8, config: &Config) -> Result<Judged, AllocError>
+        ensures judged { IfOk result (λ judgement. judgement ≡ judged (situation_in config.now self.old.state) self.old.state.statements payload number) }
+        ensures taken { IfOk result (λ judgement. self.new ≡ record self.old {
+          state = record self.old.state {
+            statements = taken_as judgement (is_open self.old.state.transaction.state) payload self.old.state.statements;
+          };
+        }) }
+        ensures holds { Holds self.old self.new }
+    {
+        let now = self.situation(config);
+        self.statements.take(payload, number, now)
+    }
+
+    /// How the session stands where a command comes now.
+    fn situation(&self, config: &Config) -> Situation
+        ensures { result ≡ situation_in config.now self.now.state }
+    {
+        let opened = self.transaction.state.opened;
+        Situation {
+            in_transaction: opened != Open::Nothing,
+            read_only: opened == Open::ReadOnly,
+            history_limit: config.history_limit,
+            room: config.command_bytes,
         }
     }
 
-    /// Takes up a command that a server is to answer by a reply of this kind, unless its class is refused.
-    fn take_for_server(
-        &mut self,
-        kind: Kind,
-        payload: Text,
-        number: u8,
-        config: &Config,
-    ) -> Result<(), AllocError>
-        requires served { accepted_as (request_of payload) payload number ≡ Serves (record { payload = payload; kind = kind; number = number }) }
-        ensures ok { OnOk result (self.new ≡ record self.old {
-          state = answers (judged (context_in config.now.history_limit self.old.state) payload number) number self.old.state;
-        }) }
+    /// A command that was taken for this waits for a server, or its answer is owed.
+    fn answer_command(&mut self, judgement: Judged, number: u8) -> Result<(), AllocError>
+        ensures ok { OnOk result (self.new ≡ record self.old { state = answers judgement number self.old.state }) }
         ensures err { OnErr result (Holds self.old self.new) }
     {
-        let class = Request::of(payload.as_slice()).class(payload.as_slice());
-        match self.refusal(class, config) {
-            Some(error) => self.owe(Out::Refuse { number, error }),
-            None => {
-                self.serve(kind, payload, number, class);
+        match judgement {
+            Judged::Leaves => self.owe(Out::Close {
+                reason: CloseReason::Quit,
+            }),
+            Judged::IsOwn => {
+                let status = self.transaction.state.status();
+                self.owe(Out::Own { number, status })
+            }
+            Judged::IsRefused(error) => self.owe(Out::Refuse { number, error }),
+            Judged::IsSilent => Ok(()),
+            Judged::HasTooMuch(length) => self.owe_too_much(length, number),
+            Judged::Serves(command) => {
+                self.pending = Some(command);
                 Ok(())
             }
         }
     }
 
-    /// Why a command of this class, which is for a server, is refused, if it is.
-    fn refusal(&self, class: Class, config: &Config) -> Option<ProxyError>
-        ensures { result ≡ class_refusal (context_in config.now.history_limit self.now.state) class }
+    /// The session is closed, since a statement would hold too many bytes of long data.
+    fn owe_too_much(&mut self, length: u64, number: u8) -> Result<(), AllocError>
+        ensures ok { OnOk result (self.new ≡ record self.old { state = owes (after_command (HasTooMuch length) number 0) self.old.state }) }
+        ensures err { OnErr result (Holds self.old self.new) }
     {
-        if is_forbidden(class) {
-            return Some(ProxyError::NotSupported);
-        }
-        let read_only = self.transaction.state.opened == Open::ReadOnly;
-        if read_only && changes(self.is_full(config), class) {
-            return Some(ProxyError::NotInReadOnly);
-        }
-        None
+        self.owe(Out::Close {
+            reason: CloseReason::TooLarge { length },
+        })?;
+        self.owe(Out::Refuse {
+            number,
+            error: ProxyError::CommandTooLarge,
+        })
     }
 
     /// A new command isn't routed yet, and the client is told nothing of its reply.
@@ -172,17 +176,5 @@ impl Session {
         self.told_from = None;
         self.reply_number = number;
         self.routing = Routing::new();
-    }
-
-    /// A command of this class is one that a server is to answer.
-    fn serve(&mut self, kind: Kind, payload: Text, number: u8, class: Class)
-        requires { class ≡ class_by (request_of payload) payload }
-        ensures { self.new ≡ record self.old {
-          state = record self.old.state {
-            pending = Some (record { payload = payload; kind = kind; number = number });
-          };
-        } }
-    {
-        self.pending = Some(ClassedCommand::new(payload, kind, number, class));
     }
 }

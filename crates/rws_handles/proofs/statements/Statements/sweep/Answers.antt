@@ -1,7 +1,8 @@
 use Rattle.std.proofs.Common.{◌≤◌, List, [], ℕ, length, vec_capacity, ap, sym, subst, arith}
 use Rattle.std.proofs.lemmas.List.Sorted.{IsNonDecreasingBy-from_sort}
 use Rattle.rws_handles.specs.Slots.{Slots, closed_numbers}
-use Rattle.rws_handles.specs.StatementsView.{AreListed, slots_of}
+use Rattle.rws_handles.specs.StatementsView.{AreGivenOut, AreListed, slots_of}
+use Rattle.rws_handles.proofs.SlotLemmas.{given_all}
 use Rattle.rws_handles.proofs.SweepLemmas.{all_left, all_out, listed_none, sorted_is}
 use Rattle.rws_handles.proofs.statements.Statements.sweep.Goals as goal
 
@@ -16,6 +17,8 @@ invariant_of-self c =
     let room = ap (λ v. vec_capacity v) c.loop-at.invariant.closing in
     record {
       listed = rw c.clear.ensures.items (subst (λ (s : Slots). AreListed s []) (sym out) (listed_none old c.self.inside.closing.items c.self.invariant.listed));
+      given = subst (λ (s : Slots). AreGivenOut s) (sym out) (given_all (closed_numbers old) old c.self.invariant.given);
+      behind = c.loop-at.invariant.behind;
       freed_room = c.loop-at.invariant.room;
       closing_room = omega (arith, c.loop-at.invariant.fewer, room, c.clear.ensures.capacity, c.sort_unstable.ensures.capacity, c.self.invariant.closing_room);
     }

@@ -8,7 +8,7 @@ returns-in-None-clause-ok c = λ purpose past links sending are distinct.
 
 pub returns-in-Some-clause-ok : goal.returns-in-Some-clause-ok
 returns-in-Some-clause-ok c = λ purpose past links sending are distinct.
-    sent_at past c.args.number links c.self.inside.links.items c.in-Some.at c.args.asked c.args.payload.now c.args.kind purpose
+    sent_at past c.args.number links c.self.inside.links.items c.in-Some.at c.args.asked c.args.payloads.now c.args.kind purpose
     c.index_mut-link.result.now c.send.new.self sending
     (found_at past c.args.number links c.self.inside.links.items c.args.self.now c.in-Some.at c.index_mut-link.result.now c.self.view_is are distinct
     (sym c.place.ensures.place ∙ c.in-Some.is) c.index_mut-link.ensures.value)

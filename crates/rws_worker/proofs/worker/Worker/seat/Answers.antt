@@ -14,3 +14,7 @@ returns-clause-ok c = record {
 pub returns-clause-owners : goal.returns-clause-owners
 returns-clause-owners c = λ other apart.
     (changes c.args.self.now.owners c.insert.new.self c.args.link _ c.in_ok-insert.ensures.updates).apart other apart
+
+pub returns-in_err-insert-2-clause-owners : goal.returns-in_err-insert-2-clause-owners
+returns-in_err-insert-2-clause-owners c = λ other apart.
+    (changes c.args.self.now.owners c.insert.new.self c.args.link _ c.in_ok-insert.ensures.updates).apart other apart

@@ -1,0 +1,5 @@
+pub mod Requests
+pub mod Commands
+pub mod Errors
+pub mod Statements
+pub mod Judging
