@@ -24,4 +24,4 @@ pub use history::{HistoryEntry, PreparedAs};
 pub use judged::{Judged, Situation};
 pub use proxy_error::ProxyError;
 pub use request::Request;
-pub use statements::{Statements, is_otherwise};
+pub use statements::{Statements, is_otherwise, is_prepared};

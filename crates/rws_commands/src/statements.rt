@@ -4,7 +4,7 @@ ghost use Rattle.std.specs.Option.{option_copied};
 ghost use Rattle.rws_commands.specs.Commands.{id_for};
 
 use crate::{Body, Command, HistoryEntry};
-pub use replies::is_otherwise;
+pub use replies::{is_otherwise, is_prepared};
 use rws_handles::{Handles, number_in};
 use std::alloc::Global;
 use std::marker::Model;

@@ -2,16 +2,15 @@
 ghost use Rattle.std.specs.Prelude.{◌≡◌, List, ℕ, IfOk, map};
 ghost use Rattle.rws_record.specs.Item.{Item};
 ghost use Rattle.rws_links.specs.Links.{link_of, number_of};
-ghost use Rattle.rws_commands.specs.Statements.{is_otherwise};
 ghost use Rattle.rws_links.specs.Table.{AreDistinct, ReadsFirst, bans, is_different, is_entry, is_failed, statement_of};
-ghost use Rattle.rws_routing.specs.Routings.{with_server};
 
 use crate::numbered::is_whole;
 use crate::{Asked, NumberedLink};
-use rws_commands::PreparedAs;
+use rws_commands::{PreparedAs, is_otherwise};
 use rws_link::LinkStep;
 use rws_msgs::PrepareOk;
 use rws_reply::{Outcome, Progress};
+use rws_routing::with_server;
 use std::alloc::AllocError;
 
 /// What a link said.
@@ -72,16 +71,6 @@ fn statement_of(asked: Option<Asked>) -> Option<PreparedAs>
     }
 }
 
-/// A statement was prepared with other counts.
-fn is_otherwise(statement: Option<PreparedAs>, named: Option<PrepareOk>) -> bool
-    ensures { result ≡ is_otherwise statement named }
-{
-    match (statement, named) {
-        (Some(how), Some(ok)) => !(how.columns == ok.columns && how.parameters == ok.parameters),
-        _ => false,
-    }
-}
-
 /// It is the end of a reply by an error.
 fn is_failed(said: &LinkStep) -> bool
     ensures { result ≡ is_failed said.now }
@@ -93,13 +82,6 @@ fn is_failed(said: &LinkStep) -> bool
         } => true,
         _ => false,
     }
-}
-
-/// A set of servers with one more of the seven that settings may name.
-fn with_server(server: u8, set: u8) -> u8
-    ensures { result ≡ with_server server set }
-{
-    if server < 7 { set | (1 << server) } else { set }
 }
 
 /// Asks links in their order, up to the first that has something to say.

@@ -4,11 +4,10 @@ ghost use Rattle.rws_trx.specs.OnLinks.{added};
 ghost use Rattle.rws_record.specs.Rules.{again_by, not_replayable};
 ghost use Rattle.rws_commands.specs.Commands.{is_session};
 ghost use Rattle.rws_record.specs.Values.{answer_to, answered_by, class_by_pending, ends_by, is_end, length_by, prepares, shown_by, speaks};
-ghost use Rattle.rws_commands.specs.Statements.{is_prepared};
 
 use rws_class::Class;
-use rws_commands::ClassedCommand;
-use rws_reply::{Kind, Outcome};
+use rws_commands::{ClassedCommand, is_prepared};
+use rws_reply::Outcome;
 use rws_routing::Routing;
 use rws_trx::{Answer, Course, Open, Transaction, TrxState};
 use rws_wire::CloseReason;
@@ -137,13 +136,6 @@ pub fn prepares(pending: &Option<ClassedCommand>) -> bool
         Some(command) => is_prepared(command.command().kind),
         None => false,
     }
-}
-
-/// A reply of this kind answers a prepare.
-fn is_prepared(kind: Kind) -> bool
-    ensures { result ≡ is_prepared kind }
-{
-    matches!(kind, Kind::Prepare)
 }
 
 /// A reply to a command of this class, on this link, speaks of the session's state.

@@ -10,13 +10,13 @@ use Rattle.rws_msgs.specs.ErrLayout.{err_at, err_code, err_bytes}
 use Rattle.rws_msgs.specs.Fields.{bytes_at, number_at, fixed_at, lenenc_at, text_at, text_bytes, zero_text_at, last_text_at, ended}
 use Rattle.rws_msgs.specs.GreetingLayout.{abilities_at, last_piece_at, plugin_at, greeting_at, abilities_bytes, front_bytes as greeting_front, back_bytes, greeting_bytes}
 use Rattle.rws_msgs.specs.OkLayout.{state_at, texts_at, ok_at, ok_status, texts_bytes, ok_bytes}
-use Rattle.rws_msgs.specs.PrepareOkLayout.{prepare_ok_at}
+use Rattle.rws_msgs.specs.PrepareOkLayout.{prepare_ok_at, prepare_ok_bytes}
 use Rattle.rws_msgs.specs.ResponseLayout.{has, answer_at, name_at, attributes_at, names_at, response_at, answer_bytes, name_bytes, attributes_bytes, names_bytes, front_bytes as response_front, response_bytes}
 use Rattle.rws_msgs.specs.SwitchLayout.{switch_at, asked_at, plugin_asked, switch_bytes}
 use Rattle.rws_link.specs.Handshake.{flags_of, response_of, reaction}
 use Rattle.rws_reply.specs.Payloads.{eof_status, prepared_counts, column_count, is_definition, is_row}
 use Rattle.rws_reply.specs.Tracking.{progress, role}
-use Rattle.rws_reply.specs.ClientForm.{client_ok, client_form}
+use Rattle.rws_reply.specs.ClientForm.{client_ok, client_prepared, client_form}
 use Rattle.rws_token.specs.Lexeme.{same_word}
 use Rattle.rws_words.specs.Words.{key_words, refused_names, setting_names}
 use Rattle.rws_class.specs.Classes.{class_of}
@@ -77,6 +77,19 @@ commit_leaves_it_open : Does
     to_link 1 (codes "1b0000000353454c45435420622046524f4d20742057484552452069643d31") ∷ [])
 unfolding lenenc lenenc_bytes full_packet spelling number_behind payload_behind first_payload eof_at err_at err_code err_bytes bytes_at number_at fixed_at lenenc_at text_at text_bytes zero_text_at last_text_at ended state_at texts_at ok_at ok_status texts_bytes ok_bytes prepare_ok_at eof_status prepared_counts column_count is_definition is_row progress role client_ok client_form has answer_at name_at attributes_at names_at response_at answer_bytes name_bytes attributes_bytes names_bytes response_front response_bytes abilities_at last_piece_at plugin_at greeting_at abilities_bytes greeting_front back_bytes greeting_bytes switch_at asked_at plugin_asked switch_bytes flags_of response_of reaction class_of same_word key_words forms
 commit_leaves_it_open = does_in 16 refl refl
+
+-- a prepare shows nothing of the transaction: its OK has no status, and the transaction stays open; so the next read isn't routed
+a_prepare_leaves_it_open : Does
+    (Observed primary_first ∷ Begin 4 0 ∷ from_client 4 (codes "0600000003626567696e") ∷
+    on_link 1 (codes "0700000100000003000000") ∷ from_client 4 (codes "0c0000001673617665706f696e742061") ∷
+    on_link 1 (codes "0c000001006500000000000000000000") ∷
+    from_client 4 (codes "1b0000000353454c45435420622046524f4d20742057484552452069643d31") ∷ End ∷ [])
+    (takes_in primary_first ∷ routes 4 ∷ to_link 1 (codes "0600000003626567696e") ∷
+    to_client 4 (codes "0700000100000003000000") ∷ to_link 1 (codes "0c0000001673617665706f696e742061") ∷
+    to_client 4 (codes "0c000001000100000000000000000000") ∷
+    to_link 1 (codes "1b0000000353454c45435420622046524f4d20742057484552452069643d31") ∷ [])
+unfolding lenenc lenenc_bytes full_packet spelling number_behind payload_behind first_payload eof_at err_at err_code err_bytes bytes_at number_at fixed_at lenenc_at text_at text_bytes zero_text_at last_text_at ended state_at texts_at ok_at ok_status texts_bytes ok_bytes prepare_ok_at prepare_ok_bytes eof_status prepared_counts column_count is_definition is_row progress role client_ok client_prepared client_form has answer_at name_at attributes_at names_at response_at answer_bytes name_bytes attributes_bytes names_bytes response_front response_bytes abilities_at last_piece_at plugin_at greeting_at abilities_bytes greeting_front back_bytes greeting_bytes switch_at asked_at plugin_asked switch_bytes flags_of response_of reaction class_of same_word key_words forms
+a_prepare_leaves_it_open = does_in 16 refl refl
 
 -- a read-only transaction is open at a replica: a write is refused, and a read goes there; with its link the transaction is
 -- lost, and its bytes are those of the two commands that were sent

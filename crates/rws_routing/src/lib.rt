@@ -6,7 +6,7 @@
 
 mod routing;
 
-pub use routing::Routing;
+pub use routing::{Routing, with_server};
 
 #[cfg(test)]
 mod tests;

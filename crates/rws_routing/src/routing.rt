@@ -168,8 +168,8 @@ fn with_target(target: Option<Target>, tried: u8) -> u8
     }
 }
 
-/// A set of servers with one more of the seven that settings may name.
-fn with_server(server: u8, set: u8) -> u8
+/// A set of servers with one more of the seven that settings may name: bit k stands for server k.
+pub fn with_server(server: u8, set: u8) -> u8
     ensures { result ≡ with_server server set }
 {
     if server < 7 { set | (1 << server) } else { set }

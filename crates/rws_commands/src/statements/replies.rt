@@ -141,8 +141,8 @@ impl Statements {
     }
 }
 
-/// It is the kind of reply that answers a prepare.
-fn is_prepared(kind: Kind) -> bool
+/// A reply of this kind answers a prepare.
+pub fn is_prepared(kind: Kind) -> bool
     ensures { result ≡ is_prepared kind }
 {
     matches!(kind, Kind::Prepare)
