@@ -5,8 +5,10 @@
 #![tactic(auto)]
 
 mod causal;
+mod commits;
 #[cfg(test)]
 mod tests;
 
 pub use causal::{Causal, after_probe, after_wait, begin};
+pub use commits::commit_in;
 pub use rws_wire::Mode;

@@ -1,6 +1,6 @@
 //! The three rules on one pool: what comes before a read, and what an answer lets through.
 
-use crate::{Causal, after_probe, after_wait, begin};
+use crate::{Causal, after_probe, after_wait, begin, commit_in};
 use rws_gtid::Gtid;
 use rws_pool::{PoolWords, Round, Seen, State};
 use rws_result::{Rows, read_rows};
@@ -127,5 +127,18 @@ fn answers_to_a_probe(rt: HostRuntime) -> Result<(), Fail> {
         assert_eq!(rt; after_probe(Some(&rows), SEVENTH), next);
     }
     assert_eq!(rt; after_probe(None, SEVENTH), Causal::Unreadable);
+    Ok(())
+}
+
+/// The OK of an autocommit insert, as MariaDB sends it where `last_gtid` is tracked: its state has one entry, of type 0.
+const COMMIT: &[u8] = b"\x00\x01\x00\x02\x40\x00\x00\x00\x12\x00\x10\x09last_gtid\x050-1-7";
+
+#[test]
+fn commits_that_oks_tell_of(rt: HostRuntime) -> Result<(), Fail> {
+    let alloc = rt.alloc();
+    assert_eq!(rt; commit_in(alloc, COMMIT, 0)?, Some(SEVENTH));
+    assert_eq!(rt; commit_in(alloc, COMMIT, 1)?, None);
+    assert_eq!(rt; commit_in(alloc, &COMMIT[..COMMIT.len() - 1], 0)?, None);
+    assert_eq!(rt; commit_in(alloc, b"\x00\x00\x00\x02\x00\x00\x00", 0)?, None);
     Ok(())
 }

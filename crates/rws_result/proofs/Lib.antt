@@ -1,3 +1,4 @@
 pub mod CellLemmas
 pub mod PartLemmas
 pub mod GrammarLemmas
+pub mod OneValueLemmas

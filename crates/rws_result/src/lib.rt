@@ -5,6 +5,7 @@
 mod cells;
 mod fault;
 mod law;
+mod one_value;
 mod parts;
 mod read;
 mod row;
@@ -14,7 +15,8 @@ mod rows;
 mod tests;
 
 pub use fault::ReadFault;
-pub use law::result_sets_are_read;
+pub use law::{one_values_are_read, result_sets_are_read};
+pub use one_value::OneValue;
 pub use read::read_rows;
 pub use row::Row;
 pub use row_list::RowList;

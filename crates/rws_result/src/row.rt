@@ -48,6 +48,13 @@ impl Row {
         self.cells.as_slice()
     }
 
+    /// The columns.
+    pub fn into_cells(self) -> Vec<Option<Text>>
+        ensures { result.items ≡ self }
+    {
+        self.cells
+    }
+
     /// Puts a column at the end.
     pub fn push(&mut self, cell: Option<Text>) -> Result<(), AllocError>
         ensures ok { OnOk result (self.new ≡ self.old ++ cell ∷ []) }

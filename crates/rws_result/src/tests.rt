@@ -1,6 +1,6 @@
 //! Results as MariaDB 10.11 sent them, and lists of payloads that are none.
 
-use crate::{ReadFault, Rows, read_rows};
+use crate::{OneValue, ReadFault, Rows, read_rows};
 use rws_wire::{PayloadList, Text};
 use std::alloc::Global;
 use std::test::Fail;
@@ -154,5 +154,25 @@ fn rows_of_one_column(rt: HostRuntime) -> Result<(), Fail> {
         let read = read_rows(rt.alloc(), &list)?;
         assert!(rt; has_row(&read, &[column]));
     }
+    Ok(())
+}
+
+/// What is heard of these payloads is this value.
+fn hears(alloc: Global, payloads: &[&[u8]], value: Option<&[u8]>) -> Result<bool, Fail> {
+    let mut heard = OneValue::Begins;
+    for payload in payloads {
+        heard.hear(alloc, payload)?;
+    }
+    Ok(heard.value() == value)
+}
+
+#[test]
+fn one_value_payload_by_payload(rt: HostRuntime) -> Result<(), Fail> {
+    let alloc = rt.alloc();
+    assert!(rt; hears(alloc, &[ONE, DEFINITION, EOF, ROW, EOF], Some(b"5"))?);
+    assert!(rt; hears(alloc, &[ONE, DEFINITION, EOF, b"\xfb", EOF], None)?);
+    assert!(rt; hears(alloc, &[ONE, DEFINITION, EOF, ROW], None)?);
+    assert!(rt; hears(alloc, &[ONE, DEFINITION, EOF, ROW, ROW, EOF], None)?);
+    assert!(rt; hears(alloc, &[ERR], None)?);
     Ok(())
 }
