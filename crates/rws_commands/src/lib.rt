@@ -25,3 +25,6 @@ pub use judged::{Judged, Situation};
 pub use proxy_error::ProxyError;
 pub use request::Request;
 pub use statements::{Statements, is_otherwise, is_prepared};
+
+#[cfg(test)]
+mod tests;

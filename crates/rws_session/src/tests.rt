@@ -319,3 +319,48 @@ fn a_session_is_played_on_another_link(rt: HostRuntime) -> Result<(), Fail> {
     assert_eq!(rt; went.ok(), Some(PLAYED.len()));
     Ok(())
 }
+
+/// COM_STMT_PREPARE of `SELECT ?`, COM_STMT_EXECUTE of the session's statement 1 with a NULL, and COM_STMT_CLOSE of it.
+const PREPARE: &[u8] = b"\x09\0\0\0\x16SELECT ?";
+
+const EXECUTE: &[u8] = b"\x0e\0\0\0\x17\x01\0\0\0\0\x01\0\0\0\x01\x01\x06\0";
+
+const CLOSE: &[u8] = b"\x05\0\0\0\x19\x01\0\0\0";
+
+/// The reply to the prepare at the primary, with the id 7, and at the replica, with the id 9, and what the client gets for the first.
+const AT_PRIMARY: &[u8] =
+    b"\x0c\0\0\x01\0\x07\0\0\0\0\0\x01\0\0\0\0\x17\0\0\x02\x03def\0\0\0\x01?\0\x0c?\0\0\0\0\0\x06\x80\0\0\0\0\x05\0\0\x03\xfe\0\0\x02\0";
+
+const AT_REPLICA: &[u8] =
+    b"\x0c\0\0\x01\0\x09\0\0\0\0\0\x01\0\0\0\0\x17\0\0\x02\x03def\0\0\0\x01?\0\x0c?\0\0\0\0\0\x06\x80\0\0\0\0\x05\0\0\x03\xfe\0\0\x02\0";
+
+const PREPARED: &[u8] =
+    b"\x0c\0\0\x01\0\x01\0\0\0\0\0\x01\0\0\0\0\x17\0\0\x02\x03def\0\0\0\x01?\0\x0c?\0\0\0\0\0\x06\x80\0\0\0\0\x05\0\0\x03\xfe\0\0\x02\0";
+
+/// The execute under the replica's id, and what the replica is sent before a read once the statement is closed, with the read.
+const EXECUTED: &[u8] = b"\x0e\0\0\0\x17\x09\0\0\0\0\x01\0\0\0\x01\x01\x06\0";
+
+const CLOSED: &[u8] = b"\x05\0\0\0\x19\x09\0\0\0\x09\0\0\0\x03SELECT 1";
+
+/// A statement is prepared at the primary, executed at the replica under its id there, and closed; the replica is told before its next
+/// command.
+const RUN: [Turn; 8] = [
+    (From::Client, PREPARE, b"", PREPARE),
+    (From::Link(1), AT_PRIMARY, PREPARED, b""),
+    (From::Client, EXECUTE, b"", b""),
+    (From::Ready(2), b"", b"", PREPARE),
+    (From::Link(2), AT_REPLICA, b"", EXECUTED),
+    (From::Link(2), PONG, PONG, b""),
+    (From::Client, CLOSE, b"", b""),
+    (From::Client, READ, b"", CLOSED),
+];
+
+#[test]
+fn a_statement_is_run_on_another_link(rt: HostRuntime) -> Result<(), Fail> {
+    let config = built_in(rt.alloc())?;
+    let mut session = begin(rt.alloc(), 1, &config)?;
+    let mut given = Given::new(rt.alloc(), 2);
+    let went = play(rt.alloc(), &mut session, &RUN, &config, &mut given);
+    assert_eq!(rt; went.ok(), Some(RUN.len()));
+    Ok(())
+}
