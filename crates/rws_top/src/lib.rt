@@ -15,4 +15,6 @@ mod results;
 #[cfg(test)]
 mod routes;
 #[cfg(test)]
+mod statements;
+#[cfg(test)]
 mod tests;

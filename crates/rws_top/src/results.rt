@@ -53,7 +53,7 @@ const FRONT: &[u8] =
     b"010000020117000003036465660000000161000c2d000a000000fd000000000005000004fe00000200";
 
 /// Appends a line.
-fn line(text: &mut Vec<u8>, start: &[u8], bytes: &[u8]) -> Result<(), AllocError> {
+pub fn line(text: &mut Vec<u8>, start: &[u8], bytes: &[u8]) -> Result<(), AllocError> {
     text.extend_from_slice(start)?;
     text.extend_from_slice(bytes)?;
     text.extend_from_slice(b"\n")
@@ -143,7 +143,7 @@ fn rows(text: &mut Vec<u8>, start: &[u8], count: u32) -> Result<(), AllocError> 
 }
 
 /// A digit in hex.
-fn digit(value: u8) -> u8
+pub fn digit(value: u8) -> u8
     requires { value < 16 }
 {
     if value < 10 {
