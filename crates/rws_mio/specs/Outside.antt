@@ -1,5 +1,5 @@
 -- What a board over sockets says of the events that it gives.
-use Rattle.std.specs.Prelude.{◌≡◌, ◌≤◌, ℕ, List, Contains, Option, None, Some, ⊤, zero, suc}
+use Rattle.std.specs.Prelude.{◌≡◌, ◌≤◌, ◌-◌, ℕ, List, Contains, Option, None, Some, ⊤}
 use Rattle.rws_board.specs.declared.event.Event.{Event}
 use Rattle.rws_board.specs.declared.event.Event.TheVariants.{Accept, Clock, End}
 
@@ -19,8 +19,12 @@ abbrev pub CameAt : ℕ → ℕ → Event → Type 0
 CameAt old new (Clock now) = (old ≤ now) × (new ≡ now)
 CameAt old new event = (new ≡ old) × IsHeard event
 
--- the same of a board of which so many events are left: the end comes exactly where none is
+-- The same of a board that still gives so many events: the end comes exactly where there are none.
+pub record GivenOf (more : ℕ) (left : Option ℕ) (old new : ℕ) (event : Event) : Type 0 where
+  pub ends : more ≡ 0 → (event ≡ End) × (left ≡ Some 0) × (new ≡ old)
+  pub goes_on : 1 ≤ more → (left ≡ Some (more - 1)) × CameAt old new event
+
+-- the same of any board, where None stands for one without an end
 abbrev pub GivenAt : Option ℕ → Option ℕ → ℕ → ℕ → Event → Type 0
-GivenAt (Some zero) left old new event = (event ≡ End) × (left ≡ Some zero) × (new ≡ old)
-GivenAt (Some (suc more)) left old new event = (left ≡ Some more) × CameAt old new event
 GivenAt None left old new event = (left ≡ None) × CameAt old new event
+GivenAt (Some more) left old new event = GivenOf more left old new event

@@ -7,6 +7,7 @@ use crate::scrambles::Scrambles;
 use mio::net::{TcpListener, TcpStream};
 use rws_board::BoardFault;
 use std::io;
+use std::net::SocketAddr;
 use std::rt::Files;
 
 /// What came of a look at the listener.
@@ -44,6 +45,11 @@ impl Gate {
             paused: false,
             queued: false,
         }
+    }
+
+    /// Where clients connect to.
+    pub fn address(&self) -> Option<SocketAddr> {
+        self.listener.as_ref()?.local_addr().ok()
     }
 
     /// Lets the next client in. It fails where the listener does, and where the numbers of sessions are used up.

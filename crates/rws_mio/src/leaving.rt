@@ -12,16 +12,18 @@ impl Table {
 
     /// Gives a link up.
     pub fn drop_link(&mut self, link: u64) -> Result<(), AllocError> {
-        match self.links.get(&link) {
-            Some(place) => self.leave(*place),
+        let place = self.links.get(&link).copied();
+        match place {
+            Some(place) => self.leave(place),
             None => Ok(()),
         }
     }
 
     /// Closes a session.
     pub fn close(&mut self, session: u32) -> Result<(), AllocError> {
-        match self.sessions.get(&session) {
-            Some(place) => self.leave(*place),
+        let place = self.sessions.get(&session).copied();
+        match place {
+            Some(place) => self.leave(place),
             None => Ok(()),
         }
     }

@@ -1,14 +1,14 @@
 //! A board over sockets.
-ghost use Rattle.std.specs.Prelude.{◌≡◌, ◌≤◌, None, Some, IfOk, IfSome, IsErrOf, MatchResult, ⊤};
+ghost use Rattle.std.specs.Prelude.{◌≡◌, ◌≤◌, None, Some, IfOk, IsErrOf, MatchOption, MatchResult, ⊤};
 ghost use Rattle.rws_board.specs.Faults.{Rises};
-ghost use Rattle.rws_mio.specs.Outside.{CameAt, GivenAt};
+ghost use Rattle.rws_mio.specs.Outside.{CameAt, GivenAt, GivenOf};
 
 use crate::planned_board::counted;
 use crate::sockets::Sockets;
 use crate::timer::Timer;
 use rws_board::{Action, Board, BoardFault, Event};
 use rws_pool::PoolCall;
-use std::net::Net;
+use std::net::{Net, SocketAddr};
 use std::rt::Files;
 use std::time::Clock;
 
@@ -48,6 +48,11 @@ impl<R: Net + Clock + Files + Drop> MioBoard<R> {
         self.faults
     }
 
+    /// Where clients connect to; None where there is no listener.
+    pub fn address(&self) -> Option<SocketAddr> {
+        self.sockets.address()
+    }
+
     // Gives the next event, or the end.
     fn give(&mut self, wait_ms: u64) -> Result<Event, BoardFault>
         ensures given { IfOk result (λ event. GivenAt self.old.left self.new.left self.old.timer.reading self.new.timer.reading event) }
@@ -56,13 +61,22 @@ impl<R: Net + Clock + Files + Drop> MioBoard<R> {
         self.sockets.flush()?;
         match self.left {
             None => came(&self.rt, &mut self.sockets, &mut self.timer, wait_ms),
-            Some(0) => Ok(Event::End),
-            Some(left) => {
-                let event = came(&self.rt, &mut self.sockets, &mut self.timer, wait_ms)?;
-                self.left = Some(left - 1);
-                Ok(event)
-            }
+            Some(more) => self.give_of(more, wait_ms),
         }
+    }
+
+    // Gives the next event of so many, or the end.
+    fn give_of(&mut self, more: u64, wait_ms: u64) -> Result<Event, BoardFault>
+        requires { self.old.left ≡ Some more }
+        ensures given { IfOk result (λ event. GivenOf more self.new.left self.old.timer.reading self.new.timer.reading event) }
+        ensures faults { self.new.faults ≡ self.old.faults }
+    {
+        if more == 0 {
+            return Ok(Event::End);
+        }
+        let event = came(&self.rt, &mut self.sockets, &mut self.timer, wait_ms)?;
+        self.left = Some(more - 1);
+        Ok(event)
     }
 }
 
@@ -108,18 +122,37 @@ fn came<R: Net + Clock + Files>(
     ensures { IfOk result (λ event. CameAt timer.old.reading timer.new.reading event) }
 {
     for _ in 0..u64::MAX {
-        let now = timer.now(rt)?;
-        sockets.set_now(now);
-        let left = timer.left(now, wait_ms.max(1));
-        if left == 0 {
-            sockets.tick(rt)?;
-            return Ok(Event::Clock {
-                now_ms: timer.read(now),
-            });
-        }
-        if let Some(event) = sockets.turn(rt, left)? {
-            return Ok(event);
+        match look(rt, sockets, timer, wait_ms)? {
+            Some(event) => return Ok(event),
+            None => {}
         }
     }
     Err(BoardFault::Failed)
+}
+
+// Does one thing: gives a clock that is due, serves a socket, or waits for the sockets.
+#[tactic(auto, using(crate::proofs::OutsideLemmas::heard_at))]
+fn look<R: Net + Clock + Files>(
+    rt: &R,
+    sockets: &mut Sockets,
+    timer: &mut Timer,
+    wait_ms: u64,
+) -> Result<Option<Event>, BoardFault>
+    ensures { IfOk result (λ found. MatchOption found
+        (timer.new.reading ≡ timer.old.reading)
+        (λ event. CameAt timer.old.reading timer.new.reading event)) }
+{
+    let now = timer.now(rt)?;
+    sockets.set_now(now);
+    let left = timer.left(now, wait_ms.max(1));
+    if left == 0 {
+        sockets.tick(rt)?;
+        return Ok(Some(Event::Clock {
+            now_ms: timer.read(now),
+        }));
+    }
+    match sockets.turn(rt, left)? {
+        Some(event) => Ok(Some(event)),
+        None => Ok(None),
+    }
 }

@@ -8,16 +8,18 @@ use std::alloc::AllocError;
 impl Table {
     /// Has a client sent a text. A session that isn't there any more gets nothing.
     pub fn to_client(&mut self, session: u32, bytes: Text) -> Result<(), AllocError> {
-        match self.sessions.get(&session) {
-            Some(place) => self.put(*place, bytes),
+        let place = self.sessions.get(&session).copied();
+        match place {
+            Some(place) => self.put(place, bytes),
             None => Ok(()),
         }
     }
 
     /// Has a server sent a text on a link. A link that isn't there any more gets nothing.
     pub fn to_link(&mut self, link: u64, bytes: Text) -> Result<(), AllocError> {
-        match self.links.get(&link) {
-            Some(place) => self.put(*place, bytes),
+        let place = self.links.get(&link).copied();
+        match place {
+            Some(place) => self.put(place, bytes),
             None => Ok(()),
         }
     }

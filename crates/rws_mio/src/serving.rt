@@ -154,14 +154,18 @@ impl Table {
         }
     }
 
-    // A client is held back by what waits for itself and for its links, a link by what waits for its client.
     fn is_held_back(&self, place: usize) -> bool {
         match self.peers.get(place) {
             None => true,
-            Some(peer) => match peer.role {
-                Role::Client { links, .. } => peer.output.is_full() || self.is_any_full(&links),
-                Role::Link { client, .. } => self.is_any_full(&[client]),
-            },
+            Some(peer) => self.is_held_back_as(peer.role, peer.output.is_full()),
+        }
+    }
+
+    // A client is held back by what waits for itself and for its links, a link by what waits for its client.
+    fn is_held_back_as(&self, role: Role, is_full: bool) -> bool {
+        match role {
+            Role::Client { links, .. } => is_full || self.is_any_full(&links),
+            Role::Link { client, .. } => self.is_any_full(&[client]),
         }
     }
 

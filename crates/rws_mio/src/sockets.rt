@@ -44,6 +44,11 @@ impl Sockets {
         })
     }
 
+    /// Where clients connect to.
+    pub fn address(&self) -> Option<SocketAddr> {
+        self.table.gate.address()
+    }
+
     /// Says how late it is.
     pub fn set_now(&mut self, now_ms: u64) {
         self.table.now_ms = now_ms;
