@@ -102,7 +102,12 @@ impl BoardMaker for ListMaker {
 
     ghost faults = { λ m. m.faults };
 
-    fn make(&mut self, _alloc: Global, place: u32, _config: &Config) -> Result<PlannedBoard, MakeFault>
+    fn make(
+        &mut self,
+        _alloc: Global,
+        place: u32,
+        _config: &Config,
+    ) -> Result<PlannedBoard, MakeFault>
         ensures did { (start : ListMakerState) (before : List (Making PlannedBoard)) → ListMakerDid start self.old before → MatchResult result
             (λ board. ListMakerDid start self.new (before ++ Made place board ∷ []))
             (λ fault. ListMakerDid start self.new (before ++ Refused place fault ∷ [])) }

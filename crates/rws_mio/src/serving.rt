@@ -46,11 +46,7 @@ impl Table {
     }
 
     // Lets a client in.
-    fn admit<R: Files>(
-        &mut self,
-        rt: &R,
-        registry: &Registry,
-    ) -> Result<Option<Event>, BoardFault>
+    fn admit<R: Files>(&mut self, rt: &R, registry: &Registry) -> Result<Option<Event>, BoardFault>
         ensures { IfOk result (λ found. IfSome found IsHeard) }
     {
         self.gate.queued = false;

@@ -50,7 +50,11 @@ pub(crate) struct Table {
 
 impl Table {
     /// No connections as yet.
-    pub fn new(alloc: Global, gate: Gate, servers: Vec<Vec<SocketAddr>>) -> Result<Table, AllocError> {
+    pub fn new(
+        alloc: Global,
+        gate: Gate,
+        servers: Vec<Vec<SocketAddr>>,
+    ) -> Result<Table, AllocError> {
         Ok(Table {
             alloc,
             peers: Slab::new(alloc),
