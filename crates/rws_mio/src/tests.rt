@@ -1,4 +1,6 @@
 //! What no contract says: that bytes come and go.
+ghost use Rattle.std.specs.Prelude.{◌≡◌, length, IfOk};
+
 use super::*;
 use rws_board::{Action, Board, BoardFault, Event};
 use rws_config::{Config, Server, ServerList, built_in};
@@ -10,21 +12,37 @@ use std::test::Fail;
 use std::time::Duration;
 
 // The settings of a board at a free port, with a server at each of these addresses.
-fn settings(alloc: Global, servers: &[&str]) -> Result<Config, AllocError> {
+fn settings(alloc: Global, servers: &[&str]) -> Result<Config, AllocError>
+    ensures { IfOk result (λ config. length config.listen ≡ 1) }
+{
     let mut config = built_in(alloc)?;
-    config.listen = TextList::new(alloc);
-    config
-        .listen
-        .push(Text::from_slice(alloc, b"127.0.0.1:0")?)?;
-    config.servers = ServerList::new(alloc);
-    for address in servers {
-        config.servers.push(Server {
-            name: Text::from_slice(alloc, address.as_bytes())?,
-            address: Text::from_slice(alloc, address.as_bytes())?,
-            maintenance: false,
-        })?;
-    }
+    config.servers = servers_at(alloc, servers)?;
+    config.listen = free_port(alloc)?;
     Ok(config)
+}
+
+fn free_port(alloc: Global) -> Result<TextList, AllocError>
+    ensures { IfOk result (λ list. length list ≡ 1) }
+{
+    let mut list = TextList::new(alloc);
+    list.push(Text::from_slice(alloc, b"127.0.0.1:0")?)?;
+    Ok(list)
+}
+
+fn servers_at(alloc: Global, addresses: &[&str]) -> Result<ServerList, AllocError> {
+    let mut servers = ServerList::new(alloc);
+    for address in addresses {
+        servers.push(server_at(alloc, address)?)?;
+    }
+    Ok(servers)
+}
+
+fn server_at(alloc: Global, address: &str) -> Result<Server, AllocError> {
+    Ok(Server {
+        name: Text::from_slice(alloc, address.as_bytes())?,
+        address: Text::from_slice(alloc, address.as_bytes())?,
+        maintenance: false,
+    })
 }
 
 // The next event that is no clock, or that last clock.
@@ -277,10 +295,10 @@ fn a_maker_in_memory_makes_what_was_planned(rt: HostRuntime) -> Result<(), Fail>
     plans.push(plan)?;
     let mut maker = ListMaker::new(alloc, plans);
     let mut board = maker.make(alloc, 0, &config)?;
-    assert!(rt; maker.make(alloc, 1, &config).is_err());
     expect(&mut board, &Event::ClientGone { session: 1 })?;
     assert!(rt; board.next(0).is_err());
     maker.take_back(board);
+    assert!(rt; maker.make(alloc, 1, &config).is_err());
     assert_eq!(rt; maker.boards().len(), 1);
     Ok(())
 }
