@@ -77,6 +77,19 @@ fn let_in<B: Board>(board: &mut B) -> Result<(), Fail> {
     }
 }
 
+fn open_link<B: Board>(
+    board: &mut B,
+    link: u64,
+    server: u8,
+    session: u32,
+) -> Result<(), BoardFault> {
+    board.act(Action::Open {
+        link,
+        server,
+        session,
+    })
+}
+
 // A connection that fails a read that waits for long.
 fn connected(rt: &HostRuntime, address: Option<SocketAddr>) -> Result<TcpStream, Fail> {
     let stream = TcpStream::connect(rt, address.ok_or("no listener")?)?;
@@ -137,12 +150,7 @@ fn links_that_cannot_be_made_are_lost(rt: HostRuntime) -> Result<(), Fail> {
     let mut board = MioMaker::new(rt, 0).make(alloc, 1, &config)?;
     for server in 0..3u8 {
         let link = server as u64 + 1;
-        let session = 0;
-        board.act(Action::Open {
-            link,
-            server,
-            session,
-        })?;
+        open_link(&mut board, link, server, 0)?;
         expect(&mut board, &Event::LinkGone { link })?;
     }
     Ok(())
@@ -155,11 +163,7 @@ fn a_link_carries_bytes_until_its_server_ends_it(rt: HostRuntime) -> Result<(), 
     let address = format!(in alloc; "{}", listener.local_addr()?)?;
     let config = settings(alloc, &[address.as_str()])?;
     let mut board = MioMaker::new(rt, 0).make(alloc, 1, &config)?;
-    board.act(Action::Open {
-        link: 1,
-        server: 0,
-        session: 0,
-    })?;
+    open_link(&mut board, 1, 0, 0)?;
     let (mut server, _) = listener.accept()?;
     server.write_all(b"greeting")?;
     let bytes = Text::from_slice(alloc, b"greeting")?;
@@ -229,11 +233,7 @@ fn a_slow_reader_holds_its_server_back(rt: HostRuntime) -> Result<(), Fail> {
     let mut board = MioMaker::new(rt, 0).make(alloc, 0, &config)?;
     let client = connected(&rt, board.address())?;
     let_in(&mut board)?;
-    board.act(Action::Open {
-        link: 1,
-        server: 0,
-        session: 1,
-    })?;
+    open_link(&mut board, 1, 0, 1)?;
     let (server, _) = listener.accept()?;
     server.set_nonblocking(true)?;
     client.set_nonblocking(true)?;
