@@ -1,0 +1,4 @@
+-- What makers did.
+pub mod MakerLemmas
+-- What boards give.
+pub mod OutsideLemmas

@@ -1,0 +1,6 @@
+use Rattle.rws_mio.proofs.MakerLemmas.{then_asked}
+use Rattle.rws_mio.proofs.list_maker.ListMakerBoardMaker.make.Goals as goal
+
+pub returns-clause-did : goal.returns-clause-did
+returns-clause-did c =
+    λ start before first. then_asked start c.args.self.now c.put_out.new.self before c.args.place c.put_out.result c.put_out.ensures.did first
