@@ -27,6 +27,3 @@ pub use list_maker::ListMaker;
 pub use mio_board::MioBoard;
 pub use mio_maker::MioMaker;
 pub use planned_board::PlannedBoard;
-
-#[cfg(test)]
-mod tests;
