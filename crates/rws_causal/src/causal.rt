@@ -81,7 +81,14 @@ fn only_text(rows: Option<&Rows>) -> Option<&[u8]>
 pub fn after_wait(rows: Option<&Rows>) -> Causal
     ensures { result ≡ after_wait (only_text (option_copied rows.entry)) }
 {
-    match only_text(rows) {
+    waited(only_text(rows))
+}
+
+/// The same by the one text that the replica answered, if it did.
+pub fn waited(text: Option<&[u8]>) -> Causal
+    ensures { result ≡ after_wait (option_copied text.entry) }
+{
+    match text {
         Some(REACHED) => Causal::Go,
         _ => Causal::TryPrimary,
     }
@@ -91,7 +98,14 @@ pub fn after_wait(rows: Option<&Rows>) -> Causal
 pub fn after_probe(rows: Option<&Rows>, wanted: Gtid) -> Causal
     ensures { result ≡ after_probe wanted (only_text (option_copied rows.entry)) }
 {
-    let Some(list) = only_text(rows) else {
+    probed(only_text(rows), wanted)
+}
+
+/// The same by the one text that the primary answered, if it did.
+pub fn probed(text: Option<&[u8]>, wanted: Gtid) -> Causal
+    ensures { result ≡ after_probe wanted (option_copied text.entry) }
+{
+    let Some(list) = text else {
         return Causal::Unreadable;
     };
     let Ok(position) = position_of(list, wanted.domain) else {

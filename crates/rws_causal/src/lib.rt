@@ -9,6 +9,6 @@ mod commits;
 #[cfg(test)]
 mod tests;
 
-pub use causal::{Causal, after_probe, after_wait, begin};
+pub use causal::{Causal, after_probe, after_wait, begin, probed, waited};
 pub use commits::commit_in;
 pub use rws_wire::Mode;

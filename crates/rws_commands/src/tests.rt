@@ -60,10 +60,10 @@ enum Told {
 }
 
 /// The number of an error, behind the first byte of its packet.
-fn number_of(error: ProxyError) -> u16 {
-    match error.payload() {
-        [0xFF, low, high, b'#', ..] => u16::from_le_bytes([*low, *high]),
-        _ => 0,
+fn number_of(alloc: Global, error: ProxyError) -> Result<u16, AllocError> {
+    match error.payload(alloc)?.as_slice() {
+        [0xFF, low, high, b'#', ..] => Ok(u16::from_le_bytes([*low, *high])),
+        _ => Ok(0),
     }
 }
 
@@ -78,7 +78,7 @@ fn take(
     Ok(match statements.take(payload, 1, now)? {
         Judged::Leaves => Told::Leaves,
         Judged::IsOwn => Told::Own,
-        Judged::IsRefused(error) => Told::Refused(number_of(error)),
+        Judged::IsRefused(error) => Told::Refused(number_of(alloc, error)?),
         Judged::IsSilent => Told::Silent,
         Judged::HasTooMuch(bytes) => Told::TooMuch(bytes),
         Judged::Serves(command) => Told::Serves(command.class(), command.bytes()),

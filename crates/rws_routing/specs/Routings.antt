@@ -2,11 +2,12 @@
 use Rattle.std.specs.Prelude.{ℕ, ◌+◌, ◌^◌, nat_lt, Bool, true, false, not, ◌&&◌, ◌==◌, Option, Some, None, bit_or, if◌then◌else◌}
 use Rattle.rws_route.specs.declared.destination.Target.{Target}
 use Rattle.rws_route.specs.declared.destination.Target.TheVariants.{Primary, Replica, NoPrimary}
+use Rattle.rws_routing.specs.declared.routing.Check.{Check}
 use Rattle.rws_routing.specs.declared.routing.Routing.{Routing}
 
 -- a command that was just taken up
 abbrev pub new_routing : Routing
-new_routing = record { target = None; assigned = None; tried = 0; waits = false; waits_from = None; retries = false }
+new_routing = record { target = None; check = None; assigned = None; sent_back = false; tried = 0; waits = false; waits_from = None; retries = false }
 
 -- It is routed
 
@@ -29,10 +30,12 @@ abbrev pub from_by : (nowhere : Bool) → (reading : ℕ) → Option ℕ → Opt
 from_by true reading before = or_number before reading
 from_by false reading before = before
 
-abbrev pub routed : (found : Target) → (link : Option ℕ) → (next reading : ℕ) → Routing → Routing
-routed found link next reading r = record {
+abbrev pub routed : (found : Target) → (check : Option Check) → (link : Option ℕ) → (next reading : ℕ) → Routing → Routing
+routed found check link next reading r = record {
   target = Some found;
+  check = check;
   assigned = link_for found link next;
+  sent_back = r.sent_back;
   tried = r.tried;
   waits = is_nowhere found;
   waits_from = from_by (is_nowhere found) reading r.waits_from;
@@ -58,9 +61,19 @@ ticked wait reading r = record r {
 abbrev pub finds_late : (wait reading : ℕ) → Routing → Bool
 finds_late wait reading r = r.retries && is_late wait r.waits_from reading
 
--- it was answered that there is no primary
+-- it was answered by the proxy: there is no primary, or that is behind
 abbrev pub stopped : Routing → Routing
-stopped r = record r { waits = false }
+stopped r = record r { waits = false; check = None }
+
+-- Its server is asked first
+
+-- it has what the command is to see
+abbrev pub cleared : Routing → Routing
+cleared r = record r { check = None }
+
+-- it hasn't: the command goes back to the primary, by a new route
+abbrev pub turned_back : Routing → Routing
+turned_back r = record r { check = None; assigned = None; sent_back = true }
 
 -- A link is lost
 

@@ -6,7 +6,7 @@
 
 mod routing;
 
-pub use routing::{Routing, with_server};
+pub use routing::{Check, Routing, with_server};
 
 #[cfg(test)]
 mod tests;

@@ -1,6 +1,7 @@
 //! The value and its steps.
 ghost use Rattle.std.specs.Prelude.{◌≡◌};
 ghost use Rattle.rws_routing.specs.Routings.{
+  cleared,
   finds_late,
   from_by,
   goes_to_primary,
@@ -12,18 +13,33 @@ ghost use Rattle.rws_routing.specs.Routings.{
   stopped,
   ticked,
   tried_by,
+  turned_back,
   with_server,
 };
 
+use rws_gtid::Gtid;
 use rws_route::Target;
+
+/// What the server of a command's target is asked before the command, which is to see this commit.
+#[derive(Clone, Copy, Debug, PartialEq, Eq)]
+pub enum Check {
+    /// A replica is to wait until it has the commit.
+    Wait(Gtid),
+    /// The primary is to tell its position.
+    Probe(Gtid),
+}
 
 /// How far the pending command has come on its way to a server.
 #[derive(Clone, Copy, Debug, PartialEq, Eq)]
 pub struct Routing {
     /// What its last route found.
     pub target: Option<Target>,
+    /// What the target's server is asked first, until it has answered.
+    pub check: Option<Check>,
     /// The link that it is to go on, while the session has it.
     pub assigned: Option<u64>,
+    /// A replica was asked, and hasn't what the command is to see: it goes to the primary.
+    pub sent_back: bool,
     /// The servers whose links were lost with it: bit k stands for server k.
     pub tried: u8,
     /// No primary was found, and the clock showed nothing since.
@@ -41,7 +57,9 @@ impl Routing {
     {
         Routing {
             target: None,
+            check: None,
             assigned: None,
+            sent_back: false,
             tried: 0,
             waits: false,
             waits_from: None,
@@ -50,14 +68,23 @@ impl Routing {
     }
 
     /// It was routed when the clock's last reading was `now_ms`. `link` is the link that the session has to the server that was
-    /// found; where there is none the command goes on the link of number `next`.
-    pub fn routed(self, found: Target, link: Option<u64>, next: u64, now_ms: u64) -> Routing
-        ensures { result ≡ routed found link next now_ms self }
+    /// found; where there is none the command goes on the link of number `next`. That server is asked `check` first.
+    pub fn routed(
+        self,
+        found: Target,
+        check: Option<Check>,
+        link: Option<u64>,
+        next: u64,
+        now_ms: u64,
+    ) -> Routing
+        ensures { result ≡ routed found check link next now_ms self }
     {
         let waits = found == Target::NoPrimary;
         Routing {
             target: Some(found),
+            check,
             assigned: link_for(found, link, next),
+            sent_back: self.sent_back,
             tried: self.tried,
             waits,
             waits_from: waiting_from(waits, self.waits_from, now_ms),
@@ -73,7 +100,9 @@ impl Routing {
         let again = self.waits && !is_late(wait_ms, self.waits_from, now_ms);
         Routing {
             target: self.target,
+            check: self.check,
             assigned: self.assigned,
+            sent_back: self.sent_back,
             tried: if again { 0 } else { self.tried },
             waits: false,
             waits_from: self.waits_from,
@@ -90,7 +119,9 @@ impl Routing {
         }
         Routing {
             target: self.target,
+            check: self.check,
             assigned: None,
+            sent_back: self.sent_back,
             tried: with_target(self.target, self.tried),
             waits: self.waits,
             waits_from: self.waits_from,
@@ -98,15 +129,49 @@ impl Routing {
         }
     }
 
-    /// It was answered that there is no primary.
+    /// It was answered by the proxy: there is no primary, or that is behind.
     pub fn stopped(self) -> Routing
         ensures { result ≡ stopped self }
     {
         Routing {
             target: self.target,
+            check: None,
             assigned: self.assigned,
+            sent_back: self.sent_back,
             tried: self.tried,
             waits: false,
+            waits_from: self.waits_from,
+            retries: self.retries,
+        }
+    }
+
+    /// The target's server has what the command is to see.
+    pub fn cleared(self) -> Routing
+        ensures { result ≡ cleared self }
+    {
+        Routing {
+            target: self.target,
+            check: None,
+            assigned: self.assigned,
+            sent_back: self.sent_back,
+            tried: self.tried,
+            waits: self.waits,
+            waits_from: self.waits_from,
+            retries: self.retries,
+        }
+    }
+
+    /// It hasn't: the command is to be routed anew, to the primary.
+    pub fn turned_back(self) -> Routing
+        ensures { result ≡ turned_back self }
+    {
+        Routing {
+            target: self.target,
+            check: None,
+            assigned: None,
+            sent_back: true,
+            tried: self.tried,
+            waits: self.waits,
             waits_from: self.waits_from,
             retries: self.retries,
         }
