@@ -1,7 +1,7 @@
 -- The serials of a session's history rise, and none is as great as their number; no link has come further than that.
-use Rattle.std.proofs.Common.{◌≡◌, ℕ, suc, ◌+◌, ◌<◌, ◌≤◌, Bool, true, false, List, [], ◌∷◌, ◌++◌, filter, refl, ap, subst, sym, ◌∙◌, arith, inl, inr, Option, Some, None}
-use Rattle.std.specs.Prelude.{Contains, nat_lt, not, ◌==◌, is_some, if◌then◌else◌, Result, Ok, Err}
-use Rattle.std.proofs.lemmas.Bool.{cases_lt, eqb-true, ltb-true, lt-ltb, le-ltb}
+use Rattle.std.proofs.Common.{◌≡◌, ℕ, ◌+◌, ◌<◌, ◌≤◌, Bool, true, false, List, [], ◌∷◌, ◌++◌, filter, refl, subst, sym, arith, inl, inr, Option, Some, None}
+use Rattle.std.specs.Prelude.{nat_lt, not, is_some, if◌then◌else◌}
+use Rattle.std.proofs.lemmas.Bool.{cases_lt, lt-ltb, le-ltb}
 use Rattle.rws_msgs.specs.declared.prepare_ok.PrepareOk.{PrepareOk}
 use Rattle.rws_reply.specs.declared.kind.Outcome.{Outcome}
 use Rattle.rws_reply.specs.declared.kind.Outcome.TheVariants.{Done, Failed}
@@ -17,7 +17,6 @@ use Rattle.rws_commands.specs.declared.history.HistoryEntry.{HistoryEntry}
 use Rattle.rws_commands.specs.declared.history.PreparedAs.{PreparedAs}
 use Rattle.rws_commands.specs.declared.judged.Judged.{Judged}
 use Rattle.rws_commands.specs.declared.judged.Judged.TheVariants.{Leaves, IsOwn, IsRefused, IsSilent, HasTooMuch, Serves}
-use Rattle.rws_commands.specs.declared.proxy_error.ProxyError.{ProxyError}
 use Rattle.rws_commands.specs.declared.proxy_error.ProxyError.TheVariants as errors
 use Rattle.rws_commands.specs.declared.request.Request.{Request}
 use Rattle.rws_commands.specs.declared.request.Request.TheVariants as requests
@@ -25,19 +24,14 @@ use Rattle.rws_commands.specs.Requests.{arguments_of, request_of}
 use Rattle.rws_commands.specs.Commands.{payload_of}
 use Rattle.rws_handles.specs.PlainForm.{handle_in}
 use Rattle.rws_handles.specs.Slots.{next_number}
-use Rattle.rws_commands.specs.Statements.{Statements, answered_by, closing, close, entry_from, entry_of, failed_if, is_behind, is_prepared, last_serial, played, prepared_as, prepared_by, stands, swept_if, taken, taken_as, unplayed, with_entry, with_table}
-use Rattle.rws_record.specs.Item.{Ending, Item, Purpose, Put, Recording, Tell}
+use Rattle.rws_commands.specs.Statements.{Statements, answered_by, closing, entry_from, entry_of, failed_if, is_behind, is_prepared, last_serial, played, prepared_as, prepared_by, stands, swept_if, taken, taken_as, unplayed, with_entry, with_table}
+use Rattle.rws_record.specs.Item.{Ending, Item, Purpose}
 use Rattle.rws_record.specs.Item.Item.{Accepted, TurnsAway, Began, ClientBytes, LinkReady, LinkBytes, ClientGone, LinkLost, Ticks, Routed, Comes, Connects, Takes, Floods, Puts, Starves}
-use Rattle.rws_record.specs.Item.Purpose.{Prepares, Asks, Plays}
+use Rattle.rws_record.specs.Item.Purpose.{Prepares, Asks, Plays, Waits, Probes}
 use Rattle.rws_record.specs.Item.Recording.{Nothing, Accepts, Keeps}
 use Rattle.rws_record.specs.Item.Tell.{Passes, Owns, Refuses}
-use Rattle.rws_record.specs.Item.Put.{Hands, Tells, Routes, Opens, LogsInto, Sends, Forgets, Drops, Closes}
-use Rattle.rws_record.specs.Values.{answered_in, asked_on, command_in, cursor, fronted, heard_on, pending, played_by, serial_for, serials, statements, transaction}
-use Rattle.rws_record.specs.Record.{IsBeginning, IsInput, IsRecord}
-use Rattle.rws_record.specs.Record.IsRecord.{begins, steps as record_steps, answers, hears, starves}
-use Rattle.rws_record.proofs.StepLemmas.{Due, Step, of_next}
-use Rattle.rws_record.proofs.StepLemmas.Due.{comes, connects, takes}
-use Rattle.rws_record.proofs.StepLemmas.Step.{pays, asks, prepares, forgets, plays, sends, floods, reads}
+use Rattle.rws_record.specs.Item.Put.{Hands, Tells, Records, Routes, Opens, LogsInto, Sends, Forgets, Drops, Closes}
+use Rattle.rws_record.specs.Values.{answered_in, asked_on, command_in, cursor, fronted, heard_on, pending, serials, statements, transaction}
 
 -- Serials that rise, from one on and below another
 
@@ -138,6 +132,8 @@ heard_rises bound link (steps.Part payload role (Ends (Done status)) next behind
     played_rises bound link entry.serial entry.statement _ s rises
 heard_rises bound link (steps.Part payload role (Ends (Failed code)) next behind) (Some (Plays entry)) ends named s rises = rises
 heard_rises bound link (steps.Part payload role (Ends outcome) next behind) (Some Prepares) ends named s rises = rises
+heard_rises bound link (steps.Part payload role (Ends outcome) next behind) (Some (Waits gtid seconds)) ends named s rises = rises
+heard_rises bound link (steps.Part payload role (Ends outcome) next behind) (Some (Probes gtid)) ends named s rises = rises
 heard_rises bound link (steps.Part payload role (Ends outcome) next behind) None ends named s rises = rises
 heard_rises bound link (steps.Part payload role More next behind) asked ends named s rises = rises
 heard_rises bound link (steps.Lost cause) asked ends named s rises = rises
@@ -186,6 +182,7 @@ history_rises config (Puts (Tells number (Passes link command payload (Some its)
 history_rises config (Puts (Tells number (Passes link command payload None recording)) ∷ past) = history_rises config past
 history_rises config (Puts (Tells number (Owns status)) ∷ past) = history_rises config past
 history_rises config (Puts (Tells number (Refuses errors.NoPrimary)) ∷ past) = failed_rises (serials past) _ (statements config past) (history_rises config past)
+history_rises config (Puts (Tells number (Refuses (errors.PrimaryBehind wanted found))) ∷ past) = failed_rises (serials past) _ (statements config past) (history_rises config past)
 history_rises config (Puts (Tells number (Refuses errors.UnknownCommand)) ∷ past) = history_rises config past
 history_rises config (Puts (Tells number (Refuses errors.NotSupported)) ∷ past) = history_rises config past
 history_rises config (Puts (Tells number (Refuses errors.UnknownStatement)) ∷ past) = history_rises config past
@@ -212,6 +209,7 @@ history_rises config (Floods bytes ∷ past) = history_rises config past
 history_rises config (Starves made number ∷ past) = history_rises config past
 history_rises config (Puts (Hands packets) ∷ past) = history_rises config past
 history_rises config (Puts Routes ∷ past) = history_rises config past
+history_rises config (Puts (Records server gtid) ∷ past) = history_rises config past
 history_rises config (Puts (Opens link server login) ∷ past) = history_rises config past
 history_rises config (Puts (LogsInto link packets) ∷ past) = history_rises config past
 history_rises config (Puts (Sends link purpose) ∷ past) = history_rises config past

@@ -17,6 +17,7 @@ pub mod WantLemmas
 pub mod WorkedRuns
 pub mod LoginRuns
 pub mod RouteRuns
+pub mod CausalRuns
 pub mod HistoryRuns
 pub mod TransactionRuns
 pub mod StatementRuns

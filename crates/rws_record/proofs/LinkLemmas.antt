@@ -9,7 +9,7 @@ use Rattle.rws_route.specs.declared.destination.Target.TheVariants.{Primary, Rep
 use Rattle.rws_config.specs.declared.config.Config.{Config}
 use Rattle.rws_record.specs.Item.{Item, Put}
 use Rattle.rws_record.specs.Item.Item.{Accepted, TurnsAway, Began, ClientBytes, LinkReady, LinkBytes, ClientGone, LinkLost, Ticks, Routed, Comes, Connects, Takes, Floods, Puts, Starves}
-use Rattle.rws_record.specs.Item.Put.{Hands, Tells, Routes, Opens, LogsInto, Sends, Forgets, Drops, Closes}
+use Rattle.rws_record.specs.Item.Put.{Hands, Tells, Records, Routes, Opens, LogsInto, Sends, Forgets, Drops, Closes}
 use Rattle.rws_record.specs.Values.{links, opened_by, opens, without}
 use Rattle.rws_record.specs.Rules.{after_route, found_in, opening, owed}
 use Rattle.rws_record.specs.Record.{IsBeginning, IsInput}
@@ -19,7 +19,7 @@ use Rattle.rws_record.specs.Run.IsRun.{starts, came, goes_on, starves}
 use Rattle.rws_record.specs.Laws.{Apart}
 use Rattle.rws_record.proofs.StepLemmas.{Step, of_next, input_opens_none, rests_owing_nothing}
 use Rattle.rws_record.proofs.StepLemmas.Due.{comes, connects, takes}
-use Rattle.rws_record.proofs.StepLemmas.Step.{pays, asks, prepares, forgets, plays, sends, floods, reads}
+use Rattle.rws_record.proofs.StepLemmas.Step.{pays, asks, prepares, forgets, plays, sends, waits_first, probes_first, floods, reads}
 use Rattle.rws_record.proofs.OpeningLemmas.{is_answered, plain_unless_answered, step_unanswered}
 use Rattle.rws_record.proofs.EntryLemmas.{Next, of_next_entry}
 use Rattle.rws_record.proofs.EntryLemmas.Next.{did, answered, heard, observes}
@@ -85,6 +85,7 @@ opened (Starves made number ∷ past) link has = below (opened past link has)
 opened (Puts (Hands packets) ∷ past) link has = below (opened past link has)
 opened (Puts (Tells number tell) ∷ past) link has = below (opened past link has)
 opened (Puts Routes ∷ past) link has = below (opened past link has)
+opened (Puts (Records server gtid) ∷ past) link has = below (opened past link has)
 opened (Puts (LogsInto to packets) ∷ past) link has = below (opened past link has)
 opened (Puts (Sends to purpose) ∷ past) link has = below (opened past link has)
 opened (Puts (Forgets to id) ∷ past) link has = below (opened past link has)
@@ -237,6 +238,7 @@ step_opens_next {config} run session numbered (pays {put = put} {others = others
     by_put (Hands packets) o e = absurd cc
     by_put (Tells number tell) o e = absurd cc
     by_put Routes o e = absurd cc
+    by_put (Records server gtid) o e = absurd cc
     by_put (LogsInto to packets) o e = absurd cc
     by_put (Sends to purpose) o e = absurd cc
     by_put (Forgets to id) o e = absurd cc
@@ -246,7 +248,9 @@ step_opens_next run session numbered (asks o n p g w) link server e = absurd cc
 step_opens_next run session numbered (prepares o n has f) link server e = absurd cc
 step_opens_next run session numbered (forgets o n has f t) link server e = absurd cc
 step_opens_next run session numbered (plays o n has f t s) link server e = absurd cc
-step_opens_next run session numbered (sends o n p s g f t d i) link server e = absurd cc
+step_opens_next run session numbered (sends o n p s g f t d i c) link server e = absurd cc
+step_opens_next run session numbered (waits_first o n p s g f t d c) link server e = absurd cc
+step_opens_next run session numbered (probes_first o n p s g f t d c) link server e = absurd cc
 step_opens_next run session numbered (floods o n p above) link server e = absurd cc
 step_opens_next run session numbered (reads o n (comes has a it)) link server e = absurd cc
 step_opens_next run session numbered (reads o n (connects p f c)) link server e = absurd cc

@@ -20,10 +20,10 @@ use Rattle.rws_link.specs.declared.handshake.Handshake.{Handshake}
 use Rattle.rws_link.specs.declared.handshake.Reaction.{Reaction}
 use Rattle.rws_link.specs.declared.handshake.Reaction.TheVariants.{Answers, Accepted, Loses}
 use Rattle.rws_link.specs.Handshake.{due, reaction}
-use Rattle.rws_link.specs.Stepping.{LinkState, LogsIn, Rests, Awaits, IsLost, Exchange, Step, fed, is_new, logged_in, opened as opening, reacted, sent, step, settled, behind_part, with_part, replied, replied_by, read_by, is_some_byte}
+use Rattle.rws_link.specs.Stepping.{LinkState, LogsIn, Rests, Awaits, IsLost, Exchange, Step, fed, is_new, logged_in, opened as opening, reacted, step, settled, behind_part, with_part, replied, replied_by, read_by, is_some_byte}
 use Rattle.rws_record.specs.Item.{Item, Purpose}
 use Rattle.rws_record.specs.Item.Item.{Accepted, TurnsAway, Began, ClientBytes, LinkReady, LinkBytes, ClientGone, LinkLost, Ticks, Routed, Comes, Connects, Takes, Floods, Puts, Starves}
-use Rattle.rws_record.specs.Item.Put.{Hands, Tells, Routes, Opens, LogsInto, Sends, Forgets, Drops, Closes}
+use Rattle.rws_record.specs.Item.Put.{Hands, Tells, Records, Routes, Opens, LogsInto, Sends, Forgets, Drops, Closes}
 use Rattle.rws_record.specs.Values.{asked_on, linked, sent_all, sent_for, kind_of}
 
 -- what a link says that says something
@@ -303,6 +303,7 @@ was_asked link (Floods bytes ∷ past) = was_asked link past
 was_asked link (Starves made number ∷ past) = was_asked link past
 was_asked link (Puts (Hands packets) ∷ past) = was_asked link past
 was_asked link (Puts Routes ∷ past) = was_asked link past
+was_asked link (Puts (Records server gtid) ∷ past) = was_asked link past
 was_asked link (Puts (LogsInto to packets) ∷ past) = was_asked link past
 was_asked link (Puts (Tells number tell) ∷ past) = was_asked link past
 was_asked link (Puts (Forgets to id) ∷ past) = was_asked link past

@@ -8,7 +8,7 @@ use Rattle.std.proofs.lemmas.List.{length-append}
 use Rattle.rws_config.specs.declared.config.Config.{Config}
 use Rattle.rws_record.specs.Item.{Item}
 use Rattle.rws_record.specs.Item.Item.{Accepted, TurnsAway, Began, ClientBytes, LinkReady, LinkBytes, ClientGone, LinkLost, Ticks, Routed, Comes, Connects, Takes, Floods, Puts, Starves}
-use Rattle.rws_record.specs.Item.Put.{Hands, Tells, Routes, Opens, LogsInto, Sends, Forgets, Drops, Closes}
+use Rattle.rws_record.specs.Item.Put.{Hands, Tells, Records, Routes, Opens, LogsInto, Sends, Forgets, Drops, Closes}
 use Rattle.rws_record.specs.Values.{links, opens, server_of, without}
 use Rattle.rws_record.specs.Run.{Entry, IsRun, answer_for, begins_session, begun, is_live, is_owed_on, last_link, link_by, links_to, open_sessions, pending_to, record_of, sum}
 use Rattle.rws_record.specs.Run.Entry.{Heard, Did}
@@ -105,6 +105,7 @@ links_more (Starves made number) past = omega arith
 links_more (Puts (Hands packets)) past = omega arith
 links_more (Puts (Tells number tell)) past = omega arith
 links_more (Puts Routes) past = omega arith
+links_more (Puts (Records server gtid)) past = omega arith
 links_more (Puts (LogsInto link packets)) past = omega arith
 links_more (Puts (Forgets link id)) past = omega arith
 links_more (Puts (Sends link purpose)) past = omega arith

@@ -22,6 +22,7 @@ use Rattle.rws_class.specs.Classes.{class_of}
 use Rattle.rws_class.specs.Forms.{forms}
 use Rattle.rws_board.specs.declared.event.Event.TheVariants.{Accept, Observed, End}
 use Rattle.rws_record.proofs.WorkedRuns.{Does, closes, does_in, drops, from_client, hex, on_link, opens, primary_first, routes, takes_in, to_client, to_link}
+use Rattle.rws_causal.specs.Commits.{commit_in, commit_of, shown_at}
 
 -- a client is greeted and let in; its first command opens a link, which repeats the login, is prepared, and gets the command
 a_login_is_repeated : Does
@@ -30,7 +31,7 @@ a_login_is_repeated : Does
     on_link 1 (codes "0700000100000002000000") ∷ End ∷ [])
     (takes_in primary_first ∷ to_client 2 (codes "520000000a31302e362e302d727773706c697400020000004142434445464748000fa72d02003e001500000000000000000000494a4b4c4d4e4f5051525354006d7973716c5f6e61746976655f70617373776f726400") ∷ to_client 2 (codes "0700000200000002000000") ∷ routes 2 ∷ opens 1 0 2 ∷ to_link 1 (codes "3b00000101a2ae00000000012d000000000000000000000000000000000000000000000061707000006d7973716c5f6e61746976655f70617373776f726400") ∷
     to_link 1 (codes "64000000035345542053455353494f4e2073657373696f6e5f747261636b5f73797374656d5f7661726961626c6573203d20434f4e43415428404073657373696f6e5f747261636b5f73797374656d5f7661726961626c65732c20272c6c6173745f677469642729") ∷ to_link 1 (codes "020000000378") ∷ to_client 2 (codes "0700000100000002000000") ∷ [])
-unfolding lenenc lenenc_bytes full_packet spelling number_behind payload_behind first_payload eof_at err_at err_code err_bytes bytes_at number_at fixed_at lenenc_at text_at text_bytes zero_text_at last_text_at ended state_at texts_at ok_at ok_status texts_bytes ok_bytes prepare_ok_at eof_status prepared_counts column_count is_definition is_row progress role client_ok client_form has answer_at name_at attributes_at names_at response_at answer_bytes name_bytes attributes_bytes names_bytes response_front response_bytes abilities_at last_piece_at plugin_at greeting_at abilities_bytes greeting_front back_bytes greeting_bytes switch_at asked_at plugin_asked switch_bytes flags_of response_of reaction class_of same_word
+unfolding lenenc lenenc_bytes full_packet spelling number_behind payload_behind first_payload eof_at err_at err_code err_bytes bytes_at number_at fixed_at lenenc_at text_at text_bytes zero_text_at last_text_at ended state_at texts_at ok_at ok_status texts_bytes ok_bytes prepare_ok_at eof_status prepared_counts column_count is_definition is_row progress role client_ok client_form has answer_at name_at attributes_at names_at response_at answer_bytes name_bytes attributes_bytes names_bytes response_front response_bytes abilities_at last_piece_at plugin_at greeting_at abilities_bytes greeting_front back_bytes greeting_bytes switch_at asked_at plugin_asked switch_bytes flags_of response_of reaction class_of same_word commit_in commit_of shown_at
 a_login_is_repeated = does_in 16 refl refl
 
 -- a payload that is no response: 1043
@@ -40,7 +41,7 @@ a_response_that_is_none : Does
     (to_client 1 (codes "520000000a31302e362e302d727773706c6974000100000070197e0ae26e46bc000fa72d02003e0015000000000000000000003d429d9bcae91f64266e5471006d7973716c5f6e61746976655f70617373776f726400") ∷
     to_client 1 (codes "16000002ff13042330385330316261642068616e647368616b65") ∷
     closes 1 Handshake ∷ [])
-unfolding lenenc lenenc_bytes full_packet spelling number_behind payload_behind first_payload eof_at err_at err_code err_bytes bytes_at number_at fixed_at lenenc_at text_at text_bytes zero_text_at last_text_at ended state_at texts_at ok_at ok_status texts_bytes ok_bytes prepare_ok_at eof_status prepared_counts column_count is_definition is_row progress role client_ok client_form has answer_at name_at attributes_at names_at response_at answer_bytes name_bytes attributes_bytes names_bytes response_front response_bytes abilities_at last_piece_at plugin_at greeting_at abilities_bytes greeting_front back_bytes greeting_bytes switch_at asked_at plugin_asked switch_bytes flags_of response_of reaction class_of same_word
+unfolding lenenc lenenc_bytes full_packet spelling number_behind payload_behind first_payload eof_at err_at err_code err_bytes bytes_at number_at fixed_at lenenc_at text_at text_bytes zero_text_at last_text_at ended state_at texts_at ok_at ok_status texts_bytes ok_bytes prepare_ok_at eof_status prepared_counts column_count is_definition is_row progress role client_ok client_form has answer_at name_at attributes_at names_at response_at answer_bytes name_bytes attributes_bytes names_bytes response_front response_bytes abilities_at last_piece_at plugin_at greeting_at abilities_bytes greeting_front back_bytes greeting_bytes switch_at asked_at plugin_asked switch_bytes flags_of response_of reaction class_of same_word commit_in commit_of shown_at
 a_response_that_is_none = does_in 16 refl refl
 
 -- an answer for an account with an empty password: 1045
@@ -50,7 +51,7 @@ a_client_is_denied : Does
     (to_client 1 (codes "520000000a31302e362e302d727773706c6974000100000036a316f04142608c000fa72d02003e0015000000000000000000009e91bd7c8e5f303dafbcf8a3006d7973716c5f6e61746976655f70617373776f726400") ∷
     to_client 1 (codes "16000002ff15042332383030306163636573732064656e696564") ∷
     closes 1 Access ∷ [])
-unfolding lenenc lenenc_bytes full_packet spelling number_behind payload_behind first_payload eof_at err_at err_code err_bytes bytes_at number_at fixed_at lenenc_at text_at text_bytes zero_text_at last_text_at ended state_at texts_at ok_at ok_status texts_bytes ok_bytes prepare_ok_at eof_status prepared_counts column_count is_definition is_row progress role client_ok client_form has answer_at name_at attributes_at names_at response_at answer_bytes name_bytes attributes_bytes names_bytes response_front response_bytes abilities_at last_piece_at plugin_at greeting_at abilities_bytes greeting_front back_bytes greeting_bytes switch_at asked_at plugin_asked switch_bytes flags_of response_of reaction class_of same_word
+unfolding lenenc lenenc_bytes full_packet spelling number_behind payload_behind first_payload eof_at err_at err_code err_bytes bytes_at number_at fixed_at lenenc_at text_at text_bytes zero_text_at last_text_at ended state_at texts_at ok_at ok_status texts_bytes ok_bytes prepare_ok_at eof_status prepared_counts column_count is_definition is_row progress role client_ok client_form has answer_at name_at attributes_at names_at response_at answer_bytes name_bytes attributes_bytes names_bytes response_front response_bytes abilities_at last_piece_at plugin_at greeting_at abilities_bytes greeting_front back_bytes greeting_bytes switch_at asked_at plugin_asked switch_bytes flags_of response_of reaction class_of same_word commit_in commit_of shown_at
 a_client_is_denied = does_in 16 refl refl
 
 -- a client that names another plugin is asked for an answer by the native one, over the same scramble
@@ -59,7 +60,7 @@ a_client_is_asked_for_another_answer : Does
     from_client 1 (codes "430000010fa30801000000010800000000000000000000000000000000000000000000006e6f626f647900006d7964620063616368696e675f736861325f70617373776f726400") ∷ End ∷ [])
     (to_client 1 (codes "520000000a31302e362e302d727773706c69740001000000aa7bbefefa7058bf000fa72d02003e00150000000000000000000023c317af64b0b3627d7b2130006d7973716c5f6e61746976655f70617373776f726400") ∷
     to_client 1 (codes "2c000002fe6d7973716c5f6e61746976655f70617373776f726400aa7bbefefa7058bf23c317af64b0b3627d7b213000") ∷ [])
-unfolding lenenc lenenc_bytes full_packet spelling number_behind payload_behind first_payload eof_at err_at err_code err_bytes bytes_at number_at fixed_at lenenc_at text_at text_bytes zero_text_at last_text_at ended state_at texts_at ok_at ok_status texts_bytes ok_bytes prepare_ok_at eof_status prepared_counts column_count is_definition is_row progress role client_ok client_form has answer_at name_at attributes_at names_at response_at answer_bytes name_bytes attributes_bytes names_bytes response_front response_bytes abilities_at last_piece_at plugin_at greeting_at abilities_bytes greeting_front back_bytes greeting_bytes switch_at asked_at plugin_asked switch_bytes flags_of response_of reaction class_of same_word
+unfolding lenenc lenenc_bytes full_packet spelling number_behind payload_behind first_payload eof_at err_at err_code err_bytes bytes_at number_at fixed_at lenenc_at text_at text_bytes zero_text_at last_text_at ended state_at texts_at ok_at ok_status texts_bytes ok_bytes prepare_ok_at eof_status prepared_counts column_count is_definition is_row progress role client_ok client_form has answer_at name_at attributes_at names_at response_at answer_bytes name_bytes attributes_bytes names_bytes response_front response_bytes abilities_at last_piece_at plugin_at greeting_at abilities_bytes greeting_front back_bytes greeting_bytes switch_at asked_at plugin_asked switch_bytes flags_of response_of reaction class_of same_word commit_in commit_of shown_at
 a_client_is_asked_for_another_answer = does_in 16 refl refl
 
 -- a server that asks for an answer by another plugin is given up: the command that waits for it is routed again, and waits for a
@@ -76,7 +77,7 @@ a_server_asks_for_another_plugin : Does
     routes 4 ∷ opens 1 0 4 ∷
     to_link 1 (codes "400000010da2ae000000000108000000000000000000000000000000000000000000000061707000006d796462006d7973716c5f6e61746976655f70617373776f726400") ∷
     drops 1 Plugin ∷ routes 4 ∷ [])
-unfolding lenenc lenenc_bytes full_packet spelling number_behind payload_behind first_payload eof_at err_at err_code err_bytes bytes_at number_at fixed_at lenenc_at text_at text_bytes zero_text_at last_text_at ended state_at texts_at ok_at ok_status texts_bytes ok_bytes prepare_ok_at eof_status prepared_counts column_count is_definition is_row progress role client_ok client_form has answer_at name_at attributes_at names_at response_at answer_bytes name_bytes attributes_bytes names_bytes response_front response_bytes abilities_at last_piece_at plugin_at greeting_at abilities_bytes greeting_front back_bytes greeting_bytes switch_at asked_at plugin_asked switch_bytes flags_of response_of reaction class_of same_word forms
+unfolding lenenc lenenc_bytes full_packet spelling number_behind payload_behind first_payload eof_at err_at err_code err_bytes bytes_at number_at fixed_at lenenc_at text_at text_bytes zero_text_at last_text_at ended state_at texts_at ok_at ok_status texts_bytes ok_bytes prepare_ok_at eof_status prepared_counts column_count is_definition is_row progress role client_ok client_form has answer_at name_at attributes_at names_at response_at answer_bytes name_bytes attributes_bytes names_bytes response_front response_bytes abilities_at last_piece_at plugin_at greeting_at abilities_bytes greeting_front back_bytes greeting_bytes switch_at asked_at plugin_asked switch_bytes flags_of response_of reaction class_of same_word forms commit_in commit_of shown_at
 a_server_asks_for_another_plugin = does_in 16 refl refl
 
 -- so is one that refuses the preamble: a read goes to the next replica
@@ -93,5 +94,5 @@ a_server_refuses_the_preamble : Does
     to_link 1 (codes "3b00000101a2ae000000000121000000000000000000000000000000000000000000000061707000006d7973716c5f6e61746976655f70617373776f726400") ∷
     to_link 1 (codes "64000000035345542053455353494f4e2073657373696f6e5f747261636b5f73797374656d5f7661726961626c6573203d20434f4e43415428404073657373696f6e5f747261636b5f73797374656d5f7661726961626c65732c20272c6c6173745f677469642729") ∷
     drops 1 (Login 1064) ∷ routes 4 ∷ opens 2 2 4 ∷ [])
-unfolding lenenc lenenc_bytes full_packet spelling number_behind payload_behind first_payload eof_at err_at err_code err_bytes bytes_at number_at fixed_at lenenc_at text_at text_bytes zero_text_at last_text_at ended state_at texts_at ok_at ok_status texts_bytes ok_bytes prepare_ok_at eof_status prepared_counts column_count is_definition is_row progress role client_ok client_form has answer_at name_at attributes_at names_at response_at answer_bytes name_bytes attributes_bytes names_bytes response_front response_bytes abilities_at last_piece_at plugin_at greeting_at abilities_bytes greeting_front back_bytes greeting_bytes switch_at asked_at plugin_asked switch_bytes flags_of response_of reaction class_of same_word
+unfolding lenenc lenenc_bytes full_packet spelling number_behind payload_behind first_payload eof_at err_at err_code err_bytes bytes_at number_at fixed_at lenenc_at text_at text_bytes zero_text_at last_text_at ended state_at texts_at ok_at ok_status texts_bytes ok_bytes prepare_ok_at eof_status prepared_counts column_count is_definition is_row progress role client_ok client_form has answer_at name_at attributes_at names_at response_at answer_bytes name_bytes attributes_bytes names_bytes response_front response_bytes abilities_at last_piece_at plugin_at greeting_at abilities_bytes greeting_front back_bytes greeting_bytes switch_at asked_at plugin_asked switch_bytes flags_of response_of reaction class_of same_word commit_in commit_of shown_at
 a_server_refuses_the_preamble = does_in 16 refl refl

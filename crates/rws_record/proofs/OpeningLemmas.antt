@@ -4,6 +4,9 @@ use Rattle.std.proofs.Common.{◌≡◌, ℕ, Bool, true, false, List, [], ◌�
 use Rattle.std.specs.Prelude.{if◌then◌else◌}
 use Rattle.rws_wire.specs.declared.drop_cause.DropCause.TheVariants.{End, Kept}
 use Rattle.rws_native.specs.declared.login.Login.{Login}
+use Rattle.rws_gtid.specs.declared.Gtid.{Gtid}
+use Rattle.rws_causal.specs.declared.causal.Causal.{Causal}
+use Rattle.rws_causal.specs.declared.causal.Causal.TheVariants as causals
 use Rattle.rws_reply.specs.declared.kind.Outcome.{Outcome}
 use Rattle.rws_reply.specs.declared.kind.Outcome.TheVariants.{Done, Failed}
 use Rattle.rws_reply.specs.declared.kind.Progress.{Progress}
@@ -25,19 +28,19 @@ use Rattle.rws_commands.specs.declared.judged.Judged.{Judged}
 use Rattle.rws_record.specs.Item.{Item, Purpose, Put, Recording, Tell}
 use Rattle.rws_record.specs.Item.Item.{Accepted, TurnsAway, Began, ClientBytes, LinkReady, LinkBytes, ClientGone, LinkLost, Ticks, Routed, Comes, Connects, Takes, Floods, Puts, Starves}
 use Rattle.rws_commands.specs.declared.judged.Judged.TheVariants.{Leaves, IsOwn, IsRefused, IsSilent, HasTooMuch, Serves}
-use Rattle.rws_record.specs.Item.Purpose.{Prepares, Asks, Plays}
+use Rattle.rws_record.specs.Item.Purpose.{Prepares, Asks, Plays, Waits, Probes}
 use Rattle.rws_record.specs.Item.Recording.{Nothing, Accepts, Keeps}
 use Rattle.rws_record.specs.Item.Tell.{Passes, Owns, Refuses}
-use Rattle.rws_record.specs.Item.Put.{Hands, Tells, Routes, Opens, LogsInto, Sends, Forgets, Drops, Closes}
+use Rattle.rws_record.specs.Item.Put.{Hands, Tells, Records, Routes, Opens, LogsInto, Sends, Forgets, Drops, Closes}
 use Rattle.rws_commands.specs.Commands.{class_of_command, keeps}
-use Rattle.rws_record.specs.Values.{asking, asked_on, kept_on, links, named_in, named_on, now, opens, is_over, reply_number, statements, without, transaction}
-use Rattle.rws_record.specs.Rules.{Loss, CutsReply, HidesOutcome, TakesState, EndsTransaction, StartsReplay, SendsElsewhere, IsForgotten, after_answer, after_command, after_coming, after_connecting, after_keeping, after_loss, after_loss_by, after_part, after_played, after_preparing, after_route, after_turning_away, after_want, differing, farewells, follow, form_of, is_loss, loss_of, next, opening, owed, recording_of, refusing, unasked, ending}
+use Rattle.rws_record.specs.Values.{asking, asked_on, checked_on, kept_on, links, named_in, named_on, now, opens, is_over, reply_number, server_of, statements, without, transaction}
+use Rattle.rws_record.specs.Rules.{Loss, CutsReply, HidesOutcome, TakesState, EndsTransaction, StartsReplay, SendsElsewhere, IsForgotten, after_answer, after_check, after_command, after_coming, commit_by, after_connecting, after_keeping, after_loss, after_loss_by, after_part, after_played, after_preparing, after_route, after_turning_away, after_want, differing, farewells, follow, form_of, is_loss, loss_of, next, opening, owed, recording_commit, recording_of, refusing, unasked, ending}
 use Rattle.rws_record.specs.Record.{IsBeginning, IsInput, IsRecord, GoesOn}
 use Rattle.rws_record.specs.Record.IsRecord.{begins, steps as record_steps, answers, hears, starves}
 use Rattle.rws_record.specs.Record.GoesOn.{stays, then as goes_then}
 use Rattle.rws_record.proofs.StepLemmas.{Due, Step, goes_unasking, of_next}
 use Rattle.rws_record.proofs.StepLemmas.Due.{comes, connects, takes}
-use Rattle.rws_record.proofs.StepLemmas.Step.{pays, asks, prepares, forgets, plays, sends, floods, reads}
+use Rattle.rws_record.proofs.StepLemmas.Step.{pays, asks, prepares, forgets, plays, sends, waits_first, probes_first, floods, reads}
 
 -- neither the worker is asked nor a link opened
 abbrev pub is_plain : List Put → Bool
@@ -51,6 +54,7 @@ plain_append [] others f o = o
 plain_append (Hands packets ∷ rest) others f o = plain_append rest others f o
 plain_append (Tells number tell ∷ rest) others f o = plain_append rest others f o
 plain_append (Routes ∷ rest) others f o = absurd cc
+plain_append (Records server gtid ∷ rest) others f o = plain_append rest others f o
 plain_append (Opens link server login ∷ rest) others f o = absurd cc
 plain_append (LogsInto link packets ∷ rest) others f o = plain_append rest others f o
 plain_append (Sends link purpose ∷ rest) others f o = plain_append rest others f o
@@ -63,6 +67,7 @@ plain_behind [] p = refl
 plain_behind (Hands packets ∷ rest) p = p
 plain_behind (Tells number tell ∷ rest) p = p
 plain_behind (Routes ∷ rest) p = absurd cc
+plain_behind (Records server gtid ∷ rest) p = p
 plain_behind (Opens link server login ∷ rest) p = absurd cc
 plain_behind (LogsInto link packets ∷ rest) p = p
 plain_behind (Sends link purpose ∷ rest) p = p
@@ -108,10 +113,13 @@ plain_follow : (config : Config) (put : Put) (past : List Item) → is_plain (fo
 plain_follow config (Hands packets) past = refl
 plain_follow config (Tells number tell) past = plain_telling config number tell past
 plain_follow config Routes past = refl
+plain_follow config (Records server gtid) past = refl
 plain_follow config (Opens link server login) past = refl
 plain_follow config (LogsInto link packets) past = refl
 plain_follow config (Sends link Prepares) past = refl
 plain_follow config (Sends link (Plays entry)) past = refl
+plain_follow config (Sends link (Waits gtid seconds)) past = refl
+plain_follow config (Sends link (Probes gtid)) past = refl
 plain_follow config (Sends link (Asks command id)) past =
     plain_keeping (keeps (class_of_command command)) link (kept_on past) (links past)
 plain_follow config (Forgets link id) past = refl
@@ -143,19 +151,37 @@ plain_preparing link More behind = refl
 plain_preparing link (Ends (Done status)) behind = plain_unasked link behind
 plain_preparing link (Ends (Failed code)) behind = refl
 
-plain_part : (config : Config) (link : ℕ) (purpose : Option Purpose) (form : List ℕ) (named : Option PrepareOk) (far : Progress) (behind : Bool)
-    (number : ℕ) (past : List Item) → is_plain (after_part config link purpose form named far behind number past) ≡ true
-plain_part config link (Some (Asks command id)) form named far behind number past =
+plain_check : (link : ℕ) (checked : Option Causal) (behind : Bool) (number : ℕ) → is_plain (after_check link checked behind number) ≡ true
+plain_check link (Some (causals.Stale wanted found)) behind number = plain_unasked link behind
+plain_check link (Some causals.Unreadable) behind number = refl
+plain_check link (Some causals.Go) behind number = plain_unasked link behind
+plain_check link (Some causals.TryPrimary) behind number = plain_unasked link behind
+plain_check link (Some (causals.Wait gtid)) behind number = plain_unasked link behind
+plain_check link (Some (causals.Probe gtid)) behind number = plain_unasked link behind
+plain_check link None behind number = refl
+
+plain_part : (config : Config) (link : ℕ) (purpose : Option Purpose) (form : List ℕ) (named : Option PrepareOk) (checked : Option Causal)
+    (far : Progress) (behind : Bool) (number : ℕ) (past : List Item)
+    → is_plain (after_part config link purpose form named checked far behind number past) ≡ true
+plain_part config link (Some (Asks command id)) form named checked far behind number past =
     plain_answer link command form named far behind number (λ outcome. recording_of config link past outcome)
-plain_part config link (Some (Plays entry)) form named far behind number past = plain_played link entry named far behind
-plain_part config link (Some Prepares) form named far behind number past = plain_preparing link far behind
-plain_part config link None form named far behind number past = refl
+plain_part config link (Some (Plays entry)) form named checked far behind number past = plain_played link entry named far behind
+plain_part config link (Some Prepares) form named checked far behind number past = plain_preparing link far behind
+plain_part config link (Some (Waits gtid seconds)) form named checked far behind number past = plain_check link checked behind number
+plain_part config link (Some (Probes gtid)) form named checked far behind number past = plain_check link checked behind number
+plain_part config link None form named checked far behind number past = refl
+
+plain_commit : (server : ℕ) (commit : Option Gtid) (others : List Put) → is_plain others ≡ true
+    → is_plain (recording_commit server commit ++ others) ≡ true
+plain_commit server (Some gtid) others plain = plain
+plain_commit server None others plain = plain
 
 plain_coming : (config : Config) (link : ℕ) (said : LinkStep) (purpose : Option Purpose) (number : ℕ) (past : List Item)
     → is_plain (after_coming config link said purpose number past) ≡ true
 plain_coming config link (steps.Part payload role progress next behind) purpose number past =
-    plain_part config link purpose (form_of (next_handle (statements config past)) role payload) (named_in role payload (named_on link past))
-    progress behind number past
+    plain_commit (server_of link past) (commit_by config.gtid_domain role payload purpose) _
+    (plain_part config link purpose (form_of (next_handle (statements config past)) role payload) (named_in role payload (named_on link past))
+    (checked_on link (steps.Part payload role progress next behind) past) progress behind number past)
 plain_coming config link (steps.Lost cause) purpose number past = refl
 plain_coming config link (steps.Send packets) purpose number past = refl
 plain_coming config link steps.LoggedIn purpose number past = refl
@@ -244,6 +270,7 @@ plainness config (Puts (Closes reason) ∷ past) =
 plainness config (Puts (Hands packets) ∷ past) = given config (Hands packets) past (plainness config past).1
 plainness config (Puts (Tells number tell) ∷ past) = given config (Tells number tell) past (plainness config past).1
 plainness config (Puts Routes ∷ past) = given config Routes past (plainness config past).1
+plainness config (Puts (Records server gtid) ∷ past) = given config (Records server gtid) past (plainness config past).1
 plainness config (Puts (Opens link server login) ∷ past) = given config (Opens link server login) past (plainness config past).1
 plainness config (Puts (LogsInto link packets) ∷ past) = given config (LogsInto link packets) past (plainness config past).1
 plainness config (Puts (Sends link purpose) ∷ past) = given config (Sends link purpose) past (plainness config past).1
@@ -259,6 +286,7 @@ opened_plainly : (put : Put) (others : List Put) → is_plain (put ∷ others) �
 opened_plainly (Hands packets) others p = refl
 opened_plainly (Tells number tell) others p = refl
 opened_plainly Routes others p = refl
+opened_plainly (Records server gtid) others p = refl
 opened_plainly (Opens link server login) others p = absurd cc
 opened_plainly (LogsInto link packets) others p = refl
 opened_plainly (Sends link purpose) others p = refl
@@ -278,7 +306,9 @@ step_opens_none (asks o n p g w) plain = refl
 step_opens_none (prepares o n has f) plain = refl
 step_opens_none (forgets o n has f t) plain = refl
 step_opens_none (plays o n has f t s) plain = refl
-step_opens_none (sends o n p s g f t d i) plain = refl
+step_opens_none (sends o n p s g f t d i c) plain = refl
+step_opens_none (waits_first o n p s g f t d c) plain = refl
+step_opens_none (probes_first o n p s g f t d c) plain = refl
 step_opens_none (floods o n p above) plain = refl
 step_opens_none (reads o n due) plain = due_opens_none due
 
@@ -293,7 +323,9 @@ step_unanswered (asks o n p g w) = refl
 step_unanswered (prepares o n has f) = refl
 step_unanswered (forgets o n has f t) = refl
 step_unanswered (plays o n has f t s) = refl
-step_unanswered (sends o n p s g f t d i) = refl
+step_unanswered (sends o n p s g f t d i c) = refl
+step_unanswered (waits_first o n p s g f t d c) = refl
+step_unanswered (probes_first o n p s g f t d c) = refl
 step_unanswered (floods o n p above) = refl
 step_unanswered (reads o n due) = due_unanswered due
 
@@ -354,6 +386,7 @@ clash none some = let both : false ≡ true = sym none ∙ some in absurd cc
 paid_open : (config : Config) (put : Put) (others : List Put) (past : List Item) → owed config past ≡ put ∷ others
     → asking past ≡ false → asking (Puts put ∷ past) ≡ true → Open config (Puts put ∷ past)
 paid_open config Routes others past o none a = absurd (owes_no_question config past others o)
+paid_open config (Records server gtid) others past o none a = clash none a
 paid_open config (Hands packets) others past o none a = clash none a
 paid_open config (Tells number tell) others past o none a = clash none a
 paid_open config (Opens link server its) others past o none a = clash none a
@@ -376,7 +409,9 @@ step_open (asks o n p g w) none some = (rw o refl, n)
 step_open (prepares o n has f) none some = clash none some
 step_open (forgets o n has f t) none some = clash none some
 step_open (plays o n has f t s) none some = clash none some
-step_open (sends o n p s g f t d i) none some = clash none some
+step_open (sends o n p s g f t d i c) none some = clash none some
+step_open (waits_first o n p s g f t d c) none some = clash none some
+step_open (probes_first o n p s g f t d c) none some = clash none some
 step_open (floods o n p above) none some = clash none some
 step_open (reads o n due) none some = due_open due none some
 

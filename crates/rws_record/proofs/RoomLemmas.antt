@@ -1,13 +1,13 @@
 -- What is owed sends nothing to a server; and a session's history has no more entries than the settings allow.
-use Rattle.std.proofs.Common.{◌≡◌, ℕ, suc, ◌+◌, ◌<◌, ◌≤◌, Bool, true, false, List, [], ◌∷◌, ◌++◌, drop, filter, length, map, refl, subst, arith, Option, Some, None}
-use Rattle.std.specs.Prelude.{nat_lt, not, ◌&&◌, ◌||◌, is_some, if◌then◌else◌}
-use Rattle.std.proofs.lemmas.Bool.{and_parts, eqb-true, ltb-true}
+use Rattle.std.proofs.Common.{◌≡◌, ℕ, suc, ◌<◌, ◌≤◌, Bool, true, false, List, [], ◌∷◌, ◌++◌, filter, length, map, refl, subst, arith, Option, Some, None}
+use Rattle.std.specs.Prelude.{nat_lt, not, ◌&&◌, is_some, if◌then◌else◌}
+use Rattle.std.proofs.lemmas.Bool.{and_parts, ltb-true}
 use Rattle.std.proofs.lemmas.List.{length-append}
-use Rattle.std.proofs.lemmas.Option.{slice_get_within}
 use Rattle.rws_wire.specs.declared.drop_cause.DropCause.TheVariants.{End, Kept}
-use Rattle.rws_wire.specs.Payloads.{Beginning, first_payload}
-use Rattle.rws_wire.specs.Payloads.Beginning.{Nothing as Neither, Whole, Faulty}
 use Rattle.rws_native.specs.declared.login.Login.{Login}
+use Rattle.rws_gtid.specs.declared.Gtid.{Gtid}
+use Rattle.rws_causal.specs.declared.causal.Causal.{Causal}
+use Rattle.rws_causal.specs.declared.causal.Causal.TheVariants as causals
 use Rattle.rws_reply.specs.declared.kind.Outcome.{Outcome}
 use Rattle.rws_reply.specs.declared.kind.Outcome.TheVariants.{Done, Failed}
 use Rattle.rws_reply.specs.declared.kind.Progress.{Progress}
@@ -16,14 +16,9 @@ use Rattle.rws_reply.specs.declared.role.Role.{Role}
 use Rattle.rws_reply.specs.Tracking.{progress, role}
 use Rattle.rws_front.specs.declared.step.FrontStep.{FrontStep}
 use Rattle.rws_front.specs.declared.step.FrontStep.TheVariants as fronts
-use Rattle.rws_link.specs.declared.handshake.Handshake.{Handshake}
-use Rattle.rws_link.specs.declared.handshake.Reaction.{Reaction}
-use Rattle.rws_link.specs.declared.handshake.Reaction.TheVariants.{Answers, Accepted as IsTaken, Loses}
-use Rattle.rws_link.specs.Handshake.{due, reaction}
+use Rattle.rws_link.specs.Handshake.{due}
 use Rattle.rws_link.specs.declared.step.LinkStep.{LinkStep}
 use Rattle.rws_link.specs.declared.step.LinkStep.TheVariants as steps
-use Rattle.rws_link.specs.Stepping.{LinkState, LogsIn, Rests, Awaits, IsLost, Exchange, behind_part, fed, is_new, is_some_byte, logged_in, opened as opening, reacted, read_by, replied, readied, replied_by, sent, settled, step, with_part}
-use Rattle.rws_config.specs.declared.limits.TheConstants.{SERVER_PAYLOAD}
 use Rattle.rws_config.specs.declared.config.Config.{Config}
 use Rattle.rws_route.specs.declared.destination.Target.{Target}
 use Rattle.rws_route.specs.declared.destination.Target.TheVariants.{Primary, Replica, NoPrimary as Nowhere}
@@ -40,6 +35,7 @@ use Rattle.rws_commands.specs.declared.request.Request.{Request}
 use Rattle.rws_commands.specs.declared.request.Request.TheVariants as requests
 use Rattle.rws_commands.specs.Requests.{arguments_of, request_of}
 use Rattle.rws_commands.specs.Commands.{payload_of}
+use Rattle.rws_commands.specs.Judging.{judged as judged_as}
 use Rattle.rws_handles.specs.PlainForm.{handle_in}
 use Rattle.rws_handles.specs.Slots.{next_number}
 use Rattle.rws_handles.specs.Table.{Table, closed, open_at, swept}
@@ -47,20 +43,20 @@ use Rattle.rws_front.specs.Connection.{step_of}
 use Rattle.rws_trx.specs.Transactions.{is_open}
 use Rattle.rws_commands.specs.declared.judged.Judged.{Judged}
 use Rattle.rws_record.specs.Item.{Ending, Item, Purpose, Put, Recording, Tell}
-use Rattle.rws_record.specs.Item.Item.{Accepted, TurnsAway, Began, ClientBytes, LinkReady, LinkBytes, ClientGone, LinkLost, Ticks, Routed, Comes, Connects, Takes, Floods, Puts, Starves}
+use Rattle.rws_record.specs.Item.Item.{Accepted, TurnsAway, Began, ClientBytes, LinkReady, LinkBytes, ClientGone, LinkLost, Ticks, Routed, Comes, Connects, Takes, Puts, Starves}
 use Rattle.rws_commands.specs.declared.judged.Judged.TheVariants.{Leaves, IsOwn, IsRefused, IsSilent, HasTooMuch, Serves}
-use Rattle.rws_record.specs.Item.Purpose.{Prepares, Asks, Plays}
+use Rattle.rws_record.specs.Item.Purpose.{Prepares, Asks, Plays, Waits, Probes}
 use Rattle.rws_record.specs.Item.Recording.{Nothing, Accepts, Keeps}
 use Rattle.rws_record.specs.Item.Tell.{Passes, Owns, Refuses}
-use Rattle.rws_record.specs.Item.Put.{Hands, Tells, Routes, Opens, LogsInto, Sends, Forgets, Drops, Closes}
+use Rattle.rws_record.specs.Item.Put.{Hands, Tells, Records, Routes, Opens, LogsInto, Sends, Forgets, Drops, Closes}
 use Rattle.rws_commands.specs.Commands.{class_of_command, is_session, keeps}
-use Rattle.rws_record.specs.Values.{answered_in, asked_on, class_by_pending, command_in, ends_transaction, fronted, heard_on, is_over, kept_on, links, named_in, named_on, pending, prepares, reply_number, serial_for, serials, statements, transaction, without}
-use Rattle.rws_record.specs.Rules.{Loss, CutsReply, HidesOutcome, TakesState, EndsTransaction, StartsReplay, SendsElsewhere, IsForgotten, after_answer, after_command, after_coming, after_connecting, after_keeping, after_loss, after_loss_by, after_played, after_preparing, after_route, after_turning_away, after_want, differing, farewells, follow, form_of, is_loss, loss_of, opening as opens_to, owed, recording_by, recording_of, refusing, unasked, ending}
+use Rattle.rws_record.specs.Values.{answered_in, asked_on, checked_on, class_by_pending, command_in, ends_transaction, fronted, heard_on, is_over, kept_on, links, named_in, named_on, pending, prepares, reply_number, serials, server_of, statements, transaction, without}
+use Rattle.rws_record.specs.Rules.{Loss, CutsReply, HidesOutcome, TakesState, EndsTransaction, StartsReplay, SendsElsewhere, IsForgotten, after_answer, after_check, after_command, after_coming, commit_by, after_connecting, after_keeping, after_loss, after_loss_by, after_played, after_preparing, after_route, after_turning_away, after_want, differing, farewells, follow, form_of, found_in, is_loss, loss_of, opening as opens_to, owed, recording_by, recording_commit, recording_of, refusing, situation, unasked, ending}
 use Rattle.rws_record.specs.Record.{IsBeginning, IsInput, IsRecord}
 use Rattle.rws_record.specs.Record.IsRecord.{begins, steps as record_steps, answers, hears, starves}
 use Rattle.rws_record.proofs.StepLemmas.{Due, Step, of_next}
 use Rattle.rws_record.proofs.StepLemmas.Due.{comes, connects, takes}
-use Rattle.rws_record.proofs.StepLemmas.Step.{pays, asks, prepares as prepares_link, forgets, plays, sends, floods, reads}
+use Rattle.rws_record.proofs.StepLemmas.Step.{pays, asks, prepares as prepares_link, forgets, plays, sends, waits_first, probes_first, floods, reads}
 
 -- What is owed sends nothing to a server, and adds a command to the history only as the direct answer to what came of a link
 
@@ -80,16 +76,22 @@ is_calm (Sends link purpose ∷ others) = false
 is_calm (Forgets link id ∷ others) = false
 is_calm (_ ∷ others) = is_calm others
 
--- the first of them adds a command at most where one may be added
+-- the first of them, behind a commit that the words take, adds a command at most where one may be added
 abbrev pub begins_fitly : (may : ℕ → Bool) → List Put → Bool
 begins_fitly may [] = true
+begins_fitly may (Records server gtid ∷ others) = begins_fitly may others
 begins_fitly may (Tells number tell ∷ others) = may_tell may tell
 begins_fitly may (Sends link purpose ∷ others) = false
 begins_fitly may (Forgets link id ∷ others) = false
 begins_fitly may (_ ∷ others) = true
 
+abbrev pub behind_first : List Put → List Put
+behind_first [] = []
+behind_first (Records server gtid ∷ others) = behind_first others
+behind_first (_ ∷ others) = others
+
 abbrev pub Fits : (may : ℕ → Bool) → List Put → Type 0
-Fits may list = (begins_fitly may list ≡ true) × (is_calm (drop 1 list) ≡ true)
+Fits may list = (begins_fitly may list ≡ true) × (is_calm (behind_first list) ≡ true)
 
 telling_calmly : (accepts calm : Bool) → (not accepts && calm) ≡ true → (accepts ≡ false) × (calm ≡ true)
 telling_calmly true calm e = absurd cc
@@ -113,6 +115,7 @@ calm_fits may [] c = (refl, refl)
 calm_fits may (Hands packets ∷ rest) c = (refl, c)
 calm_fits may (Tells number tell ∷ rest) c = telling_fits may tell (is_calm rest) c
 calm_fits may (Routes ∷ rest) c = (refl, c)
+calm_fits may (Records server gtid ∷ rest) c = calm_fits may rest c
 calm_fits may (Opens link server login ∷ rest) c = (refl, c)
 calm_fits may (LogsInto link packets ∷ rest) c = (refl, c)
 calm_fits may (Sends link purpose ∷ rest) c = absurd cc
@@ -132,6 +135,7 @@ calm_append (Tells number tell ∷ rest) others f o =
     by_accepting true f behind = absurd cc
     by_accepting false f behind = behind
 calm_append (Routes ∷ rest) others f o = calm_append rest others f o
+calm_append (Records server gtid ∷ rest) others f o = calm_append rest others f o
 calm_append (Opens link server login ∷ rest) others f o = calm_append rest others f o
 calm_append (LogsInto link packets ∷ rest) others f o = calm_append rest others f o
 calm_append (Sends link purpose ∷ rest) others f o = absurd cc
@@ -177,10 +181,13 @@ calm_follow : (config : Config) (put : Put) (past : List Item) → is_calm (foll
 calm_follow config (Hands packets) past = refl
 calm_follow config (Tells number tell) past = calm_telling config number tell past
 calm_follow config Routes past = refl
+calm_follow config (Records server gtid) past = refl
 calm_follow config (Opens link server login) past = refl
 calm_follow config (LogsInto link packets) past = refl
 calm_follow config (Sends link Prepares) past = refl
 calm_follow config (Sends link (Plays entry)) past = refl
+calm_follow config (Sends link (Waits gtid seconds)) past = refl
+calm_follow config (Sends link (Probes gtid)) past = refl
 calm_follow config (Forgets link id) past = refl
 calm_follow config (Sends link (Asks command id)) past = calm_keeping (keeps (class_of_command command)) link (kept_on past) (links past)
 calm_follow config (Drops link cause) past = calm_if (is_loss cause) (after_loss config link past) (calm_loss_by (loss_of config link past) (ending config past))
@@ -291,72 +298,138 @@ answer_fits config past link command id said form named (Ends outcome) behind nu
     by_recording Accepts may = may refl
     by_recording Keeps may = refl
 
+calm_check : (link : ℕ) (checked : Option Causal) (behind : Bool) (number : ℕ) → is_calm (after_check link checked behind number) ≡ true
+calm_check link (Some (causals.Stale wanted found)) behind number = calm_unasked link behind
+calm_check link (Some causals.Unreadable) behind number = refl
+calm_check link (Some causals.Go) behind number = calm_unasked link behind
+calm_check link (Some causals.TryPrimary) behind number = calm_unasked link behind
+calm_check link (Some (causals.Wait gtid)) behind number = calm_unasked link behind
+calm_check link (Some (causals.Probe gtid)) behind number = calm_unasked link behind
+calm_check link None behind number = refl
+
+commit_fits : (may : ℕ → Bool) (server : ℕ) (commit : Option Gtid) (others : List Put) → Fits may others
+    → Fits may (recording_commit server commit ++ others)
+commit_fits may server (Some gtid) others fits = fits
+commit_fits may server None others fits = fits
+
+-- behind what came of a link that was asked whether its server has what the command is to see
+check_fits : (config : Config) (past : List Item) (link : ℕ) (payload : List ℕ) (role : Role) (far : Progress) (next : ℕ) (behind : Bool)
+    (purpose : Purpose) (number : ℕ)
+    → let said = steps.Part payload role far next behind in
+    Fits (may_lead config (Comes link said ∷ past))
+    (recording_commit (server_of link past) (commit_by config.gtid_domain role payload (Some purpose))
+    ++ after_check link (checked_on link said past) behind number)
+check_fits config past link payload role far next behind purpose number =
+    let checked = checked_on link (steps.Part payload role far next behind) past in
+    commit_fits _ (server_of link past) (commit_by config.gtid_domain role payload (Some purpose)) _
+    (calm_fits _ (after_check link checked behind number) (calm_check link checked behind number))
+
 coming_fits : (config : Config) (past : List Item) (link : ℕ) (said : LinkStep) (purpose : Option Purpose) → asked_on link past ≡ purpose
     → (number : ℕ) → Fits (may_lead config (Comes link said ∷ past)) (after_coming config link said purpose number past)
 coming_fits config past link (steps.Part payload role progress next behind) (Some (Asks command id)) a number =
+    commit_fits _ (server_of link past) (commit_by config.gtid_domain role payload (Some (Asks command id))) _ (
     answer_fits config past link command id (steps.Part payload role progress next behind)
     (form_of (next_handle (statements config past)) role payload) (named_in role payload (named_on link past)) progress behind number a
-    (λ outcome far. rw far refl)
+    (λ outcome far. rw far refl))
 coming_fits config past link (steps.Part payload role progress next behind) (Some (Plays entry)) a number =
+    commit_fits _ (server_of link past) (commit_by config.gtid_domain role payload (Some (Plays entry))) _ (
     calm_fits _ (after_played link entry (named_in role payload (named_on link past)) progress behind)
-    (calm_played link entry (named_in role payload (named_on link past)) progress behind)
+    (calm_played link entry (named_in role payload (named_on link past)) progress behind))
 coming_fits config past link (steps.Part payload role progress next behind) (Some Prepares) a number =
-    calm_fits _ (after_preparing link progress behind) (calm_preparing link progress behind)
-coming_fits config past link (steps.Part payload role progress next behind) None a number = (refl, refl)
+    commit_fits _ (server_of link past) (commit_by config.gtid_domain role payload (Some Prepares)) _
+    (calm_fits _ (after_preparing link progress behind) (calm_preparing link progress behind))
+coming_fits config past link (steps.Part payload role progress next behind) (Some (Waits gtid seconds)) a number =
+    check_fits config past link payload role progress next behind (Waits gtid seconds) number
+coming_fits config past link (steps.Part payload role progress next behind) (Some (Probes gtid)) a number =
+    check_fits config past link payload role progress next behind (Probes gtid) number
+coming_fits config past link (steps.Part payload role progress next behind) None a number =
+    commit_fits _ (server_of link past) (commit_by config.gtid_domain role payload None) _ (refl, refl)
 coming_fits config past link (steps.Lost cause) purpose a number = (refl, refl)
 coming_fits config past link (steps.Send packets) purpose a number = (refl, refl)
 coming_fits config past link steps.LoggedIn purpose a number = (refl, refl)
 coming_fits config past link steps.Idle purpose a number = (refl, refl)
 
--- what is owed once something was given out
-given_fits : (config : Config) (put : Put) (past : List Item) (may : ℕ → Bool) → is_calm (drop 1 (owed config past)) ≡ true
-    → Fits may (follow config put past ++ drop 1 (owed config past))
-given_fits config put past may later =
-    calm_fits may (follow config put past ++ drop 1 (owed config past))
-    (calm_append (follow config put past) (drop 1 (owed config past)) (calm_follow config put past) later)
-
-pub owed_fits : (config : Config) (past : List Item) → Fits (may_lead config past) (owed config past)
-owed_fits config [] = (refl, refl)
-owed_fits config (Accepted session scramble reading ∷ past) = (refl, refl)
-owed_fits config (TurnsAway told ∷ past) =
-    calm_fits (may_lead config (TurnsAway told ∷ past)) (after_turning_away told) (calm_turning told)
-owed_fits config (Began link server reading ∷ past) = (refl, refl)
-owed_fits config (ClientBytes bytes ∷ past) = (refl, refl)
-owed_fits config (LinkReady link ∷ past) = (refl, refl)
-owed_fits config (LinkBytes link bytes ∷ past) = (refl, refl)
-owed_fits config (ClientGone ∷ past) = calm_fits (may_lead config (ClientGone ∷ past)) (farewells past) (calm_farewells (links past))
-owed_fits config (LinkLost link ∷ past) =
-    calm_fits (may_lead config (LinkLost link ∷ past)) (after_loss config link past) (calm_loss_by (loss_of config link past) (ending config past))
-owed_fits config (Ticks reading ∷ past) = (refl, refl)
-owed_fits config (Routed words loads next found ∷ past) =
-    calm_fits (may_lead config (Routed words loads next found ∷ past)) (owed config (Routed words loads next found ∷ past))
-    (calm_route found _ next _ _ _)
-owed_fits config (Comes link said ∷ past) = coming_fits config past link said (asked_on link past) refl (reply_number past)
-owed_fits config (Connects said ∷ past) = calm_fits (may_lead config (Connects said ∷ past)) (after_connecting said) (calm_connecting said)
-owed_fits config (Takes judged number ∷ past) =
-    calm_fits (may_lead config (Takes judged number ∷ past)) (after_command judged number (status_of (transaction config past).state))
-    (calm_command judged number (status_of (transaction config past).state))
-owed_fits config (Floods bytes ∷ past) = (refl, refl)
-owed_fits config (Starves made number ∷ past) =
-    calm_fits (may_lead config (Starves made number ∷ past)) (after_want (is_over past) made number (farewells past))
-    (calm_want (is_over past) made number (farewells past) (calm_farewells (links past)))
-owed_fits config (Puts (Closes reason) ∷ past) =
+-- What is owed once something was given out: where that was a commit that the words take, what stands behind it still answers what came.
+paid_fits : (config : Config) (past : List Item) (put : Put) (others : List Put) → owed config past ≡ put ∷ others
+    → Fits (may_lead config past) (put ∷ others) → Fits (may_lead config (Puts put ∷ past)) (owed config (Puts put ∷ past))
+paid_fits config past (Records server gtid) others o fits = rw o fits
+paid_fits config past (Hands packets) others o fits = rw o (calm_fits _ others fits.1)
+paid_fits config past (Tells number tell) others o fits =
+    rw o (calm_fits _ (follow config (Tells number tell) past ++ others)
+    (calm_append (follow config (Tells number tell) past) others (calm_telling config number tell past) fits.1))
+paid_fits config past Routes others o fits = rw o (calm_fits _ others fits.1)
+paid_fits config past (Opens link server login) others o fits = rw o (calm_fits _ others fits.1)
+paid_fits config past (LogsInto link packets) others o fits = rw o (calm_fits _ others fits.1)
+paid_fits config past (Sends link purpose) others o fits =
+    rw o (calm_fits _ (follow config (Sends link purpose) past ++ others)
+    (calm_append (follow config (Sends link purpose) past) others (calm_follow config (Sends link purpose) past) fits.1))
+paid_fits config past (Forgets link id) others o fits = rw o (calm_fits _ others fits.1)
+paid_fits config past (Drops link cause) others o fits =
+    rw o (calm_fits _ (follow config (Drops link cause) past ++ others)
+    (calm_append (follow config (Drops link cause) past) others (calm_follow config (Drops link cause) past) fits.1))
+paid_fits config past (Closes reason) others o fits =
     calm_fits (may_lead config (Puts (Closes reason) ∷ past)) (farewells past) (calm_farewells (links past))
-owed_fits config (Puts (Hands packets) ∷ past) =
-    given_fits config (Hands packets) past (may_lead config (Puts (Hands packets) ∷ past)) (owed_fits config past).1
-owed_fits config (Puts (Tells number tell) ∷ past) =
-    given_fits config (Tells number tell) past (may_lead config (Puts (Tells number tell) ∷ past)) (owed_fits config past).1
-owed_fits config (Puts Routes ∷ past) = given_fits config Routes past (may_lead config (Puts Routes ∷ past)) (owed_fits config past).1
-owed_fits config (Puts (Opens link server login) ∷ past) =
-    given_fits config (Opens link server login) past (may_lead config (Puts (Opens link server login) ∷ past)) (owed_fits config past).1
-owed_fits config (Puts (LogsInto link packets) ∷ past) =
-    given_fits config (LogsInto link packets) past (may_lead config (Puts (LogsInto link packets) ∷ past)) (owed_fits config past).1
-owed_fits config (Puts (Sends link purpose) ∷ past) =
-    given_fits config (Sends link purpose) past (may_lead config (Puts (Sends link purpose) ∷ past)) (owed_fits config past).1
-owed_fits config (Puts (Forgets link id) ∷ past) =
-    given_fits config (Forgets link id) past (may_lead config (Puts (Forgets link id) ∷ past)) (owed_fits config past).1
-owed_fits config (Puts (Drops link cause) ∷ past) =
-    given_fits config (Drops link cause) past (may_lead config (Puts (Drops link cause) ∷ past)) (owed_fits config past).1
+
+-- where nothing was owed, what follows on it alone
+sent_fits : (config : Config) (past : List Item) (link : ℕ) (purpose : Purpose) → owed config past ≡ []
+    → Fits (may_lead config (Puts (Sends link purpose) ∷ past)) (owed config (Puts (Sends link purpose) ∷ past))
+sent_fits config past link purpose o =
+    rw o (calm_fits _ (follow config (Sends link purpose) past ++ [])
+    (calm_append (follow config (Sends link purpose) past) [] (calm_follow config (Sends link purpose) past) refl))
+
+due_fits : {config : Config} {past : List Item} {item : Item} → Due config past item → Fits (may_lead config (item ∷ past)) (owed config (item ∷ past))
+due_fits {config} {past} (comes {link = link} {said = said} has a it) =
+    coming_fits config past link said (asked_on link past) refl (reply_number past)
+due_fits {config} {past} (connects {said = said} p f c) =
+    calm_fits (may_lead config (Connects said ∷ past)) (after_connecting said) (calm_connecting said)
+due_fits {config} {past} (takes {payload = payload} p f) =
+    let judged = judged_as (situation config past) (statements config past) payload.bytes payload.next in
+    calm_fits (may_lead config (Takes judged payload.next ∷ past)) (after_command judged payload.next (status_of (transaction config past).state))
+    (calm_command judged payload.next (status_of (transaction config past).state))
+
+step_fits : {config : Config} {past : List Item} {item : Item} → Step config past item → Fits (may_lead config past) (owed config past)
+    → Fits (may_lead config (item ∷ past)) (owed config (item ∷ past))
+step_fits {config} {past} (pays {put = put} {others = others} o) fits = paid_fits config past put others o (rw o at fits)
+step_fits (asks o n p g w) fits = rw o (refl, refl)
+step_fits {config} {past} (prepares_link {link = link} o n has f) fits = sent_fits config past link Prepares o
+step_fits (forgets o n has f t) fits = rw o (refl, refl)
+step_fits {config} {past} (plays {link = link} {entry = entry} o n has f t s) fits = sent_fits config past link (Plays entry) o
+step_fits {config} {past} (sends {link = link} {command = command} {id = id} o n p s g f t d i c) fits =
+    sent_fits config past link (Asks command id) o
+step_fits {config} {past} (waits_first {link = link} {gtid = gtid} o n p s g f t d c) fits =
+    sent_fits config past link (Waits gtid config.causal_timeout_s) o
+step_fits {config} {past} (probes_first {link = link} {gtid = gtid} o n p s g f t d c) fits = sent_fits config past link (Probes gtid) o
+step_fits (floods o n p above) fits = (refl, refl)
+step_fits (reads o n due) fits = due_fits due
+
+input_fits : (config : Config) (item : Item) (past : List Item) → IsInput item past → Fits (may_lead config (item ∷ past)) (owed config (item ∷ past))
+input_fits config (ClientBytes bytes) past input = (refl, refl)
+input_fits config ClientGone past input = calm_fits (may_lead config (ClientGone ∷ past)) (farewells past) (calm_farewells (links past))
+input_fits config (LinkReady link) past input = (refl, refl)
+input_fits config (LinkBytes link bytes) past input = (refl, refl)
+input_fits config (LinkLost link) past input =
+    calm_fits (may_lead config (LinkLost link ∷ past)) (after_loss config link past) (calm_loss_by (loss_of config link past) (ending config past))
+input_fits config (Ticks reading) past input = (refl, refl)
+input_fits config _ past input = absurd input
+
+begins_fits : (config : Config) (item : Item) → IsBeginning item → Fits (may_lead config (item ∷ [])) (owed config (item ∷ []))
+begins_fits config (Accepted session scramble reading) its = (refl, refl)
+begins_fits config (TurnsAway told) its = calm_fits (may_lead config (TurnsAway told ∷ [])) (after_turning_away told) (calm_turning told)
+begins_fits config (Began link server reading) its = (refl, refl)
+begins_fits config _ its = absurd its
+
+owed_fits : (config : Config) (past : List Item) → IsRecord config past → Fits (may_lead config past) (owed config past)
+owed_fits config past (begins {item = item} its) = begins_fits config item its
+owed_fits config past (record_steps {past = below} {item = item} legal is_next) =
+    step_fits (of_next config below item is_next) (owed_fits config below legal)
+owed_fits config past (answers {past = below} {words = words} {loads = loads} {next_link = next} legal asked) =
+    let found = found_in config below words loads in
+    calm_fits (may_lead config (Routed words loads next found ∷ below)) (owed config (Routed words loads next found ∷ below))
+    (calm_route found _ next _ _ _)
+owed_fits config past (hears {past = below} {item = item} legal rests none n input) = input_fits config item below input
+owed_fits config past (starves {past = below} {made = made} {number = number} legal once can its) =
+    calm_fits (may_lead config (Starves made number ∷ below)) (after_want (is_over below) made number (farewells below))
+    (calm_want (is_over below) made number (farewells below) (calm_farewells (links below)))
 
 -- The history is no longer than the settings allow
 
@@ -429,6 +502,8 @@ heard_within config link (steps.Part payload role (Ends outcome) next behind) (S
 heard_within config link (steps.Part payload role (Ends (Done status)) next behind) (Some (Plays entry)) ends named s within =
     played_within config link entry.serial entry.statement (named_in role payload named) s within
 heard_within config link (steps.Part payload role (Ends (Failed code)) next behind) (Some (Plays entry)) ends named s within = within
+heard_within config link (steps.Part payload role (Ends outcome) next behind) (Some (Waits gtid seconds)) ends named s within = within
+heard_within config link (steps.Part payload role (Ends outcome) next behind) (Some (Probes gtid)) ends named s within = within
 heard_within config link (steps.Part payload role (Ends outcome) next behind) (Some Prepares) ends named s within = within
 heard_within config link (steps.Part payload role (Ends outcome) next behind) None ends named s within = within
 heard_within config link (steps.Part payload role More next behind) asked ends named s within = within
@@ -467,42 +542,32 @@ abbrev Within : Config → List Item → Type 0
 Within config past = IsWithin config (statements config past)
 
 -- a command is added only on a link that the client asked it on, where one is pending and the history has room
-pub adds_with_room : (config : Config) (past : List Item) (number link : ℕ) (command : Command) (payload : List ℕ) (its : Ending) (others : List Put)
+adds_with_room : (config : Config) (past : List Item) → IsRecord config past → (number link : ℕ) (command : Command) (payload : List ℕ) (its : Ending) (others : List Put)
     → owed config past ≡ Tells number (Passes link command payload (Some its) Accepts) ∷ others
     → (is_client (asked_on link past) ≡ true) × (is_some (pending past) ≡ true) × (length (statements config past).history < config.history_limit)
-adds_with_room config past number link command payload its others o =
-    let may : may_lead config past link ≡ true = (subst (λ (list : List Put). Fits (may_lead config past) list) o (owed_fits config past)).0 in
+adds_with_room config past legal number link command payload its others o =
+    let may : may_lead config past link ≡ true = (subst (λ (list : List Put). Fits (may_lead config past) list) o (owed_fits config past legal)).0 in
     let parts = and_parts (is_client (asked_on link past)) (is_some (pending past) && nat_lt (length (statements config past).history) config.history_limit) may in
     let room = and_parts (is_some (pending past)) (nat_lt (length (statements config past).history) config.history_limit) parts.1 in
     (parts.0, room.0, ltb-true (length (statements config past).history) config.history_limit room.1)
 
--- nothing that is owed goes to a server but what a login needs
-pub owes_no_sending : {A : Type 0} (config : Config) (past : List Item) (link : ℕ) (purpose : Purpose) (others : List Put)
-    → owed config past ≡ Sends link purpose ∷ others → A
-owes_no_sending config past link purpose others o =
-    let may : false ≡ true = (subst (λ (list : List Put). Fits (may_lead config past) list) o (owed_fits config past)).0 in absurd cc
-
-pub owes_no_forgetting : {A : Type 0} (config : Config) (past : List Item) (link id : ℕ) (others : List Put)
-    → owed config past ≡ Forgets link id ∷ others → A
-owes_no_forgetting config past link id others o =
-    let may : false ≡ true = (subst (λ (list : List Put). Fits (may_lead config past) list) o (owed_fits config past)).0 in absurd cc
-
-paid_within : (config : Config) (past : List Item) (put : Put) (others : List Put) → owed config past ≡ put ∷ others
+paid_within : (config : Config) (past : List Item) → IsRecord config past → (put : Put) (others : List Put) → owed config past ≡ put ∷ others
     → Within config past → Within config (Puts put ∷ past)
-paid_within config past (Hands packets) others o within = within
-paid_within config past (Tells number (Passes link command payload (Some its) Accepts)) others o within =
+paid_within config past legal (Hands packets) others o within = within
+paid_within config past legal (Tells number (Passes link command payload (Some its) Accepts)) others o within =
     answered_within config link (serials past) (pending past) its (statements config past)
-    (adds_with_room config past number link command payload its others o).2
-paid_within config past (Tells number (Passes link command payload (Some its) Keeps)) others o within =
+    (adds_with_room config past legal number link command payload its others o).2
+paid_within config past legal (Tells number (Passes link command payload (Some its) Keeps)) others o within =
     unrecorded_within config link (pending past) its (statements config past) within
-paid_within config past (Tells number (Passes link command payload (Some its) Nothing)) others o within =
+paid_within config past legal (Tells number (Passes link command payload (Some its) Nothing)) others o within =
     unrecorded_within config link (pending past) its (statements config past) within
-paid_within config past (Tells number (Passes link command payload None recording)) others o within = within
-paid_within config past (Tells number (Owns status)) others o within = within
-paid_within config past (Tells number (Refuses error)) others o within = refused_within error
+paid_within config past legal (Tells number (Passes link command payload None recording)) others o within = within
+paid_within config past legal (Tells number (Owns status)) others o within = within
+paid_within config past legal (Tells number (Refuses error)) others o within = refused_within error
   where
     refused_within : (error : ProxyError) → Within config (Puts (Tells number (Refuses error)) ∷ past)
     refused_within errors.NoPrimary = failed_within config (prepares (pending past)) (statements config past) within
+    refused_within (errors.PrimaryBehind wanted found) = failed_within config (prepares (pending past)) (statements config past) within
     refused_within errors.UnknownCommand = within
     refused_within errors.NotSupported = within
     refused_within errors.UnknownStatement = within
@@ -512,13 +577,14 @@ paid_within config past (Tells number (Refuses error)) others o within = refused
     refused_within errors.TooManyConnections = within
     refused_within errors.CommandTooLarge = within
     refused_within errors.OutOfMemory = within
-paid_within config past Routes others o within = within
-paid_within config past (Opens opened server login) others o within = within
-paid_within config past (LogsInto link packets) others o within = within
-paid_within config past (Sends link purpose) others o within = within
-paid_within config past (Forgets link id) others o within = within
-paid_within config past (Drops link cause) others o within = within
-paid_within config past (Closes reason) others o within = within
+paid_within config past legal Routes others o within = within
+paid_within config past legal (Records server gtid) others o within = within
+paid_within config past legal (Opens opened server login) others o within = within
+paid_within config past legal (LogsInto link packets) others o within = within
+paid_within config past legal (Sends link purpose) others o within = within
+paid_within config past legal (Forgets link id) others o within = within
+paid_within config past legal (Drops link cause) others o within = within
+paid_within config past legal (Closes reason) others o within = within
 
 due_within : {config : Config} {past : List Item} {item : Item} → Due config past item → Within config past → Within config (item ∷ past)
 due_within {config} {past} (comes {link = link} {said = said} has a it) within =
@@ -527,15 +593,17 @@ due_within (connects p f c) within = within
 due_within {config} {past} (takes {payload = payload} p f) within =
     taken_as_within config _ (is_open (transaction config past).state) (command_in (step_of config.accounts (fronted config past)).0) (statements config past) within
 
-step_within : {config : Config} {past : List Item} {item : Item} → Step config past item → Within config past → Within config (item ∷ past)
-step_within {config} {past} (pays {put = put} {others = others} o) within = paid_within config past put others o within
-step_within (asks o n p g w) within = within
-step_within (prepares_link o n has f) within = within
-step_within (forgets o n has f t) within = within
-step_within (plays o n has f t s) within = within
-step_within (sends o n p s g f t d i) within = within
-step_within (floods o n p above) within = within
-step_within (reads o n due) within = due_within due within
+step_within : {config : Config} {past : List Item} {item : Item} → IsRecord config past → Step config past item → Within config past → Within config (item ∷ past)
+step_within {config} {past} legal (pays {put = put} {others = others} o) within = paid_within config past legal put others o within
+step_within legal (asks o n p g w) within = within
+step_within legal (prepares_link o n has f) within = within
+step_within legal (forgets o n has f t) within = within
+step_within legal (plays o n has f t s) within = within
+step_within legal (sends o n p s g f t d i c) within = within
+step_within legal (waits_first o n p s g f t d c) within = within
+step_within legal (probes_first o n p s g f t d c) within = within
+step_within legal (floods o n p above) within = within
+step_within legal (reads o n due) within = due_within due within
 
 input_within : (config : Config) (item : Item) (past : List Item) → IsInput item past → Within config past → Within config (item ∷ past)
 input_within config (ClientBytes bytes) past input within = within
@@ -555,7 +623,7 @@ begins_within config _ its = absurd its
 pub history_within : (config : Config) (past : List Item) → IsRecord config past → length (statements config past).history ≤ config.history_limit
 history_within config past (begins {item = item} its) = begins_within config item its
 history_within config past (record_steps {past = below} {item = item} legal is_next) =
-    step_within (of_next config below item is_next) (history_within config below legal)
+    step_within legal (of_next config below item is_next) (history_within config below legal)
 history_within config past (answers {past = below} legal asked) = history_within config below legal
 history_within config past (hears {past = below} {item = item} legal rests none n input) =
     input_within config item below input (history_within config below legal)

@@ -1,7 +1,6 @@
 -- Runs with prepared statements, computed by the definition.
 use Rattle.std.proofs.Common.{[], ◌∷◌, refl, None, Some, codes}
-use Rattle.rws_wire.specs.declared.close_reason.CloseReason.TheVariants.{OutcomeUnknown, SessionState, ResultCut, Quit}
-use Rattle.rws_wire.specs.declared.drop_cause.DropCause.TheVariants.{BadReply, BadWire, SessionDiffers, Unasked, Kept as AsKept, End as AtEnd}
+use Rattle.rws_wire.specs.declared.drop_cause.DropCause.TheVariants.{SessionDiffers}
 use Rattle.rws_wire.specs.Lenenc.{lenenc, lenenc_bytes}
 use Rattle.rws_wire.specs.Packets.{full_packet, spelling, number_behind}
 use Rattle.rws_wire.specs.Payloads.{payload_behind, first_payload}
@@ -19,9 +18,10 @@ use Rattle.rws_words.specs.Words.{key_words, refused_names, setting_names}
 use Rattle.rws_class.specs.Classes.{class_of}
 use Rattle.rws_class.specs.Forms.{forms}
 use Rattle.rws_handles.specs.PlainForm.{long_data_bytes, run_bytes, long_data_at}
-use Rattle.rws_pool.specs.declared.words.State.TheVariants.{Down, Running, Slave, Master, Maintenance}
-use Rattle.rws_board.specs.declared.event.Event.TheVariants.{Begin, ClientGone, Clock, LinkGone, LinkReady, Observed, End}
-use Rattle.rws_record.proofs.WorkedRuns.{Does, closes, does_in, drops, from_client, on_link, opens, routes, takes_in, to_client, to_link}
+use Rattle.rws_pool.specs.declared.words.State.TheVariants.{Slave, Master}
+use Rattle.rws_board.specs.declared.event.Event.TheVariants.{Begin, LinkReady, Observed, End}
+use Rattle.rws_record.proofs.WorkedRuns.{Does, does_in, drops, from_client, on_link, opens, routes, takes_in, to_client, to_link}
+use Rattle.rws_causal.specs.Commits.{commit_in, commit_of, shown_at}
 
 -- an execute goes out under the id that the server gave, with its types
 an_execute_goes_out_under_the_links_id : Does
@@ -46,7 +46,7 @@ an_execute_goes_out_under_the_links_id : Does
     to_client 1 (codes "0500000bfe00000200") ∷
     routes 1 ∷
     to_link 1 (codes "3100000017650000000001000000000001030003000300030003000300030003000300017601760176017601760176017601760176") ∷ [])
-unfolding lenenc lenenc_bytes full_packet spelling number_behind payload_behind first_payload eof_at err_at err_code err_bytes bytes_at number_at fixed_at lenenc_at text_at text_bytes zero_text_at last_text_at ended state_at texts_at ok_at ok_status texts_bytes ok_bytes prepare_ok_at prepare_ok_bytes once_at types_at values_at execute_at types_bytes values_bytes execute_bytes eof_status prepared_counts column_count is_definition is_row progress role client_ok client_prepared client_form long_data_bytes run_bytes long_data_at class_of same_word key_words refused_names setting_names forms
+unfolding lenenc lenenc_bytes full_packet spelling number_behind payload_behind first_payload eof_at err_at err_code err_bytes bytes_at number_at fixed_at lenenc_at text_at text_bytes zero_text_at last_text_at ended state_at texts_at ok_at ok_status texts_bytes ok_bytes prepare_ok_at prepare_ok_bytes once_at types_at values_at execute_at types_bytes values_bytes execute_bytes eof_status prepared_counts column_count is_definition is_row progress role client_ok client_prepared client_form long_data_bytes run_bytes long_data_at class_of same_word key_words refused_names setting_names forms commit_in commit_of shown_at
 an_execute_goes_out_under_the_links_id = does_in 24 refl refl
 
 -- long data waits for the execute that takes it, of the last statement that was prepared; as its class says, that is a read
@@ -68,7 +68,7 @@ long_data_waits_for_its_execute : Does
     to_client 1 (codes "05000005fe00000200") ∷
     routes 1 ∷
     opens 2 1 1 ∷ [])
-unfolding lenenc lenenc_bytes full_packet spelling number_behind payload_behind first_payload eof_at err_at err_code err_bytes bytes_at number_at fixed_at lenenc_at text_at text_bytes zero_text_at last_text_at ended state_at texts_at ok_at ok_status texts_bytes ok_bytes prepare_ok_at prepare_ok_bytes once_at types_at values_at execute_at types_bytes values_bytes execute_bytes eof_status prepared_counts column_count is_definition is_row progress role client_ok client_prepared client_form long_data_bytes run_bytes long_data_at class_of same_word key_words refused_names setting_names forms
+unfolding lenenc lenenc_bytes full_packet spelling number_behind payload_behind first_payload eof_at err_at err_code err_bytes bytes_at number_at fixed_at lenenc_at text_at text_bytes zero_text_at last_text_at ended state_at texts_at ok_at ok_status texts_bytes ok_bytes prepare_ok_at prepare_ok_bytes once_at types_at values_at execute_at types_bytes values_bytes execute_bytes eof_status prepared_counts column_count is_definition is_row progress role client_ok client_prepared client_form long_data_bytes run_bytes long_data_at class_of same_word key_words refused_names setting_names forms commit_in commit_of shown_at
 long_data_waits_for_its_execute = does_in 24 refl refl
 
 -- a server is told to close a statement that has left before the next command that it is to answer
@@ -95,7 +95,7 @@ a_server_closes_what_has_left : Does
     routes 1 ∷
     to_link 1 (codes "050000001965000000") ∷
     to_link 1 (codes "0c0000001673617665706f696e742061") ∷ [])
-unfolding lenenc lenenc_bytes full_packet spelling number_behind payload_behind first_payload eof_at err_at err_code err_bytes bytes_at number_at fixed_at lenenc_at text_at text_bytes zero_text_at last_text_at ended state_at texts_at ok_at ok_status texts_bytes ok_bytes prepare_ok_at prepare_ok_bytes once_at types_at values_at execute_at types_bytes values_bytes execute_bytes eof_status prepared_counts column_count is_definition is_row progress role client_ok client_prepared client_form long_data_bytes run_bytes long_data_at class_of same_word key_words refused_names setting_names forms
+unfolding lenenc lenenc_bytes full_packet spelling number_behind payload_behind first_payload eof_at err_at err_code err_bytes bytes_at number_at fixed_at lenenc_at text_at text_bytes zero_text_at last_text_at ended state_at texts_at ok_at ok_status texts_bytes ok_bytes prepare_ok_at prepare_ok_bytes once_at types_at values_at execute_at types_bytes values_bytes execute_bytes eof_status prepared_counts column_count is_definition is_row progress role client_ok client_prepared client_form long_data_bytes run_bytes long_data_at class_of same_word key_words refused_names setting_names forms commit_in commit_of shown_at
 a_server_closes_what_has_left = does_in 24 refl refl
 
 -- a statement leaves while another link plays its prepare
@@ -124,7 +124,7 @@ an_id_comes_too_late : Does
     to_client 1 (codes "0500000bfe00000200") ∷
     to_link 1 (codes "2900000016696e7365727420696e746f20742076616c75657320283f2c3f2c3f2c3f2c3f2c3f2c3f2c3f2c3f29") ∷
     to_client 1 (codes "21000001ffdb04234859303030756e6b6e6f776e2073746174656d656e742068616e646c65") ∷ [])
-unfolding lenenc lenenc_bytes full_packet spelling number_behind payload_behind first_payload eof_at err_at err_code err_bytes bytes_at number_at fixed_at lenenc_at text_at text_bytes zero_text_at last_text_at ended state_at texts_at ok_at ok_status texts_bytes ok_bytes prepare_ok_at prepare_ok_bytes once_at types_at values_at execute_at types_bytes values_bytes execute_bytes eof_status prepared_counts column_count is_definition is_row progress role client_ok client_prepared client_form long_data_bytes run_bytes long_data_at class_of same_word key_words refused_names setting_names forms
+unfolding lenenc lenenc_bytes full_packet spelling number_behind payload_behind first_payload eof_at err_at err_code err_bytes bytes_at number_at fixed_at lenenc_at text_at text_bytes zero_text_at last_text_at ended state_at texts_at ok_at ok_status texts_bytes ok_bytes prepare_ok_at prepare_ok_bytes once_at types_at values_at execute_at types_bytes values_bytes execute_bytes eof_status prepared_counts column_count is_definition is_row progress role client_ok client_prepared client_form long_data_bytes run_bytes long_data_at class_of same_word key_words refused_names setting_names forms commit_in commit_of shown_at
 an_id_comes_too_late = does_in 24 refl refl
 
 -- a prepare says nothing of the transaction that is open: a ping shows it still
@@ -146,7 +146,7 @@ a_prepare_says_nothing_of_a_transaction : Does
     to_client 1 (codes "05000004fe00000200") ∷
     to_client 1 (codes "17000005036465660000000161000c2d000a000000fd0000000000") ∷
     to_client 1 (codes "05000006fe00000200") ∷ [])
-unfolding lenenc lenenc_bytes full_packet spelling number_behind payload_behind first_payload eof_at err_at err_code err_bytes bytes_at number_at fixed_at lenenc_at text_at text_bytes zero_text_at last_text_at ended state_at texts_at ok_at ok_status texts_bytes ok_bytes prepare_ok_at prepare_ok_bytes once_at types_at values_at execute_at types_bytes values_bytes execute_bytes eof_status prepared_counts column_count is_definition is_row progress role client_ok client_prepared client_form long_data_bytes run_bytes long_data_at class_of same_word key_words refused_names setting_names forms
+unfolding lenenc lenenc_bytes full_packet spelling number_behind payload_behind first_payload eof_at err_at err_code err_bytes bytes_at number_at fixed_at lenenc_at text_at text_bytes zero_text_at last_text_at ended state_at texts_at ok_at ok_status texts_bytes ok_bytes prepare_ok_at prepare_ok_bytes once_at types_at values_at execute_at types_bytes values_bytes execute_bytes eof_status prepared_counts column_count is_definition is_row progress role client_ok client_prepared client_form long_data_bytes run_bytes long_data_at class_of same_word key_words refused_names setting_names forms commit_in commit_of shown_at
 a_prepare_says_nothing_of_a_transaction = does_in 24 refl refl
 
 -- a statement that is closed in a transaction stays for the other links until that ends
@@ -168,7 +168,7 @@ a_close_waits_for_the_transaction : Does
     routes 1 ∷
     to_link 2 (codes "0a00000017c90000000001000000") ∷
     to_client 1 (codes "0700000100000003000000") ∷ [])
-unfolding lenenc lenenc_bytes full_packet spelling number_behind payload_behind first_payload eof_at err_at err_code err_bytes bytes_at number_at fixed_at lenenc_at text_at text_bytes zero_text_at last_text_at ended state_at texts_at ok_at ok_status texts_bytes ok_bytes prepare_ok_at prepare_ok_bytes once_at types_at values_at execute_at types_bytes values_bytes execute_bytes eof_status prepared_counts column_count is_definition is_row progress role client_ok client_prepared client_form long_data_bytes run_bytes long_data_at class_of same_word key_words refused_names setting_names forms
+unfolding lenenc lenenc_bytes full_packet spelling number_behind payload_behind first_payload eof_at err_at err_code err_bytes bytes_at number_at fixed_at lenenc_at text_at text_bytes zero_text_at last_text_at ended state_at texts_at ok_at ok_status texts_bytes ok_bytes prepare_ok_at prepare_ok_bytes once_at types_at values_at execute_at types_bytes values_bytes execute_bytes eof_status prepared_counts column_count is_definition is_row progress role client_ok client_prepared client_form long_data_bytes run_bytes long_data_at class_of same_word key_words refused_names setting_names forms commit_in commit_of shown_at
 a_close_waits_for_the_transaction = does_in 24 refl refl
 
 -- an error costs the link also where the entry has left meanwhile
@@ -201,7 +201,7 @@ a_server_differs_in_an_entry_that_has_left : Does
     to_link 1 (codes "0c0000001673617665706f696e742061") ∷
     to_link 2 (codes "0c0000001673617665706f696e742061") ∷
     drops 1 SessionDiffers ∷ [])
-unfolding lenenc lenenc_bytes full_packet spelling number_behind payload_behind first_payload eof_at err_at err_code err_bytes bytes_at number_at fixed_at lenenc_at text_at text_bytes zero_text_at last_text_at ended state_at texts_at ok_at ok_status texts_bytes ok_bytes prepare_ok_at prepare_ok_bytes once_at types_at values_at execute_at types_bytes values_bytes execute_bytes eof_status prepared_counts column_count is_definition is_row progress role client_ok client_prepared client_form long_data_bytes run_bytes long_data_at class_of same_word key_words refused_names setting_names forms
+unfolding lenenc lenenc_bytes full_packet spelling number_behind payload_behind first_payload eof_at err_at err_code err_bytes bytes_at number_at fixed_at lenenc_at text_at text_bytes zero_text_at last_text_at ended state_at texts_at ok_at ok_status texts_bytes ok_bytes prepare_ok_at prepare_ok_bytes once_at types_at values_at execute_at types_bytes values_bytes execute_bytes eof_status prepared_counts column_count is_definition is_row progress role client_ok client_prepared client_form long_data_bytes run_bytes long_data_at class_of same_word key_words refused_names setting_names forms commit_in commit_of shown_at
 a_server_differs_in_an_entry_that_has_left = does_in 24 refl refl
 
 -- before the first prepare the last statement is none
@@ -209,7 +209,7 @@ no_statement_is_the_last_one : Does
     (Begin 1 0 ∷
     from_client 1 (codes "1000000017ffffffff0001000000000108000176050000001902000000") ∷ End ∷ [])
     (to_client 1 (codes "21000001ffdb04234859303030756e6b6e6f776e2073746174656d656e742068616e646c65") ∷ [])
-unfolding lenenc lenenc_bytes full_packet spelling number_behind payload_behind first_payload eof_at err_at err_code err_bytes bytes_at number_at fixed_at lenenc_at text_at text_bytes zero_text_at last_text_at ended state_at texts_at ok_at ok_status texts_bytes ok_bytes prepare_ok_at prepare_ok_bytes once_at types_at values_at execute_at types_bytes values_bytes execute_bytes eof_status prepared_counts column_count is_definition is_row progress role client_ok client_prepared client_form long_data_bytes run_bytes long_data_at class_of same_word key_words refused_names setting_names forms
+unfolding lenenc lenenc_bytes full_packet spelling number_behind payload_behind first_payload eof_at err_at err_code err_bytes bytes_at number_at fixed_at lenenc_at text_at text_bytes zero_text_at last_text_at ended state_at texts_at ok_at ok_status texts_bytes ok_bytes prepare_ok_at prepare_ok_bytes once_at types_at values_at execute_at types_bytes values_bytes execute_bytes eof_status prepared_counts column_count is_definition is_row progress role client_ok client_prepared client_form long_data_bytes run_bytes long_data_at class_of same_word key_words refused_names setting_names forms commit_in commit_of shown_at
 no_statement_is_the_last_one = does_in 24 refl refl
 
 -- an execute of a text that sets the session keeps that on its link
@@ -227,5 +227,5 @@ an_execute_that_sets_the_session : Does
     to_client 1 (codes "0c000001000100000000000000000000") ∷
     routes 1 ∷
     to_link 1 (codes "0a00000017650000000001000000") ∷ [])
-unfolding lenenc lenenc_bytes full_packet spelling number_behind payload_behind first_payload eof_at err_at err_code err_bytes bytes_at number_at fixed_at lenenc_at text_at text_bytes zero_text_at last_text_at ended state_at texts_at ok_at ok_status texts_bytes ok_bytes prepare_ok_at prepare_ok_bytes once_at types_at values_at execute_at types_bytes values_bytes execute_bytes eof_status prepared_counts column_count is_definition is_row progress role client_ok client_prepared client_form long_data_bytes run_bytes long_data_at class_of same_word key_words refused_names setting_names forms
+unfolding lenenc lenenc_bytes full_packet spelling number_behind payload_behind first_payload eof_at err_at err_code err_bytes bytes_at number_at fixed_at lenenc_at text_at text_bytes zero_text_at last_text_at ended state_at texts_at ok_at ok_status texts_bytes ok_bytes prepare_ok_at prepare_ok_bytes once_at types_at values_at execute_at types_bytes values_bytes execute_bytes eof_status prepared_counts column_count is_definition is_row progress role client_ok client_prepared client_form long_data_bytes run_bytes long_data_at class_of same_word key_words refused_names setting_names forms commit_in commit_of shown_at
 an_execute_that_sets_the_session = does_in 24 refl refl

@@ -6,6 +6,9 @@ use Rattle.std.proofs.lemmas.Bool.{cases_lt, eqb-true, lt-ltb, le-ltb}
 use Rattle.rws_wire.specs.declared.close_reason.CloseReason.{CloseReason}
 use Rattle.rws_wire.specs.declared.payload.Payload.{Payload}
 use Rattle.rws_native.specs.declared.login.Login.{Login}
+use Rattle.rws_gtid.specs.declared.Gtid.{Gtid}
+use Rattle.rws_routing.specs.declared.routing.Check.{Check}
+use Rattle.rws_routing.specs.declared.routing.Check.TheVariants.{Wait, Probe}
 use Rattle.rws_front.specs.declared.step.FrontStep.{FrontStep}
 use Rattle.rws_front.specs.declared.step.FrontStep.TheVariants as fronts
 use Rattle.rws_front.specs.Connection.{step_of}
@@ -17,13 +20,13 @@ use Rattle.rws_commands.specs.declared.command.Command.{Command}
 use Rattle.rws_commands.specs.declared.history.HistoryEntry.{HistoryEntry}
 use Rattle.rws_commands.specs.Commands.{id_for}
 use Rattle.rws_commands.specs.Statements.{stale_on, unplayed}
-use Rattle.rws_record.specs.Item.{Item, Purpose, Put}
+use Rattle.rws_record.specs.Item.{Item, Put}
 use Rattle.rws_record.specs.Item.Item.{ClientBytes, LinkReady, LinkBytes, ClientGone, LinkLost, Ticks, Comes, Connects, Takes, Floods, Puts}
 use Rattle.rws_record.specs.Item.Put.{Routes, Sends, Forgets}
-use Rattle.rws_record.specs.Item.Purpose.{Prepares, Asks, Plays}
+use Rattle.rws_record.specs.Item.Purpose.{Prepares, Asks, Plays, Waits, Probes}
 use Rattle.rws_commands.specs.Judging.{judged}
-use Rattle.rws_record.specs.Values.{asking, asking_for, cursor, fronted, goes_on, opens, held, links, linked, pending, routing, sent_on, statements, is_over}
-use Rattle.rws_record.specs.Rules.{situation, next, next_by, owed, due, due_route, due_on, due_sends, due_flood, flood_by, flood_limit, due_arrival, due_take, route_by, prepare_by, play_by, ask_by, behind_stale, is_free, is_link, coming, take_by, unless_asking, ◌or◌}
+use Rattle.rws_record.specs.Values.{asking, asking_by_check, asking_for, cursor, fronted, goes_on, opens, held, links, linked, pending, routing, sent_on, statements, is_over}
+use Rattle.rws_record.specs.Rules.{situation, next, next_by, owed, due, due_route, due_on, due_sends, due_flood, flood_by, flood_limit, due_arrival, due_take, route_by, prepare_by, play_by, ask_by, is_free, is_link, coming, take_by, unless_asking, ◌or◌}
 use Rattle.rws_record.proofs.LinkedLemmas.{Says, says}
 use Rattle.rws_record.specs.Record.{IsInput}
 
@@ -61,8 +64,17 @@ pub data Step (config : Config) (past : List Item) : Item → Type 0 where
   sends : {link : ℕ} {command : Command} {id : Option ℕ} → owed config past ≡ [] → is_over past ≡ false → pending past ≡ Some command
       → sent_on past ≡ None → goes_on config past ≡ Some link → is_free true link past ≡ true
       → stale_on link (statements config past) ≡ None → unplayed (cursor link past) (statements config past) ≡ None
-      → id_for link command.body (statements config past).table.links ≡ id
+      → id_for link command.body (statements config past).table.links ≡ id → (routing config past).check ≡ None
       → Step config past (Puts (Sends link (Asks command id)))
+  -- before it the link's server is asked whether it has what the command is to see
+  waits_first : {link : ℕ} {command : Command} {gtid : Gtid} → owed config past ≡ [] → is_over past ≡ false → pending past ≡ Some command
+      → sent_on past ≡ None → goes_on config past ≡ Some link → is_free true link past ≡ true
+      → stale_on link (statements config past) ≡ None → unplayed (cursor link past) (statements config past) ≡ None
+      → (routing config past).check ≡ Some (Wait gtid) → Step config past (Puts (Sends link (Waits gtid config.causal_timeout_s)))
+  probes_first : {link : ℕ} {command : Command} {gtid : Gtid} → owed config past ≡ [] → is_over past ≡ false → pending past ≡ Some command
+      → sent_on past ≡ None → goes_on config past ≡ Some link → is_free true link past ≡ true
+      → stale_on link (statements config past) ≡ None → unplayed (cursor link past) (statements config past) ≡ None
+      → (routing config past).check ≡ Some (Probe gtid) → Step config past (Puts (Sends link (Probes gtid)))
   floods : {command : Command} → owed config past ≡ [] → is_over past ≡ false → pending past ≡ Some command
       → flood_limit config < length (held config past) → Step config past (Floods (flood_limit config + 1))
   reads : {item : Item} → owed config past ≡ [] → is_over past ≡ false → Due config past item → Step config past item
@@ -120,17 +132,33 @@ module _ (config : Config) (past : List Item) (item : Item) where
   goes_there link None e = absurd cc
   goes_there link (Some other) e = ap Some (eqb-true other link e)
 
+  -- the pending command, or what is asked before it
+  of_command : (link : ℕ) (command : Command) (check : Option Check) → owed config past ≡ [] → is_over past ≡ false
+      → is_free true link past ≡ true → is_link link (goes_on config past) ≡ true → stale_on link (statements config past) ≡ None
+      → pending past ≡ Some command → sent_on past ≡ None
+      → unplayed (cursor link past) (statements config past) ≡ None → (routing config past).check ≡ check
+      → Puts (Sends link (asking_by_check config.causal_timeout_s check command (id_for link command.body (statements config past).table.links))) ≡ item
+      → Step config past item
+  of_command link command None o n f g t p s all c e =
+      subst (Step config past) e (sends o n p s (goes_there link (goes_on config past) g) f t all refl c)
+  of_command link command (Some (Wait gtid)) o n f g t p s all c e =
+      subst (Step config past) e (waits_first o n p s (goes_there link (goes_on config past) g) f t all c)
+  of_command link command (Some (Probe gtid)) o n f g t p s all c e =
+      subst (Step config past) e (probes_first o n p s (goes_there link (goes_on config past) g) f t all c)
+
   of_ask : (link : ℕ) (free goes : Bool) (stale : Option ℕ) (command : Option Command) (sent : Option ℕ) → owed config past ≡ []
       → is_over past ≡ false → Contains (links past) link → is_free true link past ≡ free → is_link link (goes_on config past) ≡ goes
       → stale_on link (statements config past) ≡ stale → pending past ≡ command → sent_on past ≡ sent
       → play_by free link stale (unplayed (cursor link past) (statements config past)) ≡ None
-      → ask_by free link stale goes (asking_for command link (statements config past).table.links) sent ≡ Some item → Step config past item
+      → ask_by free link stale goes (asking_for config.causal_timeout_s (routing config past).check command link (statements config past).table.links) sent ≡ Some item
+      → Step config past item
   of_ask link true true (Some id) (Some command) None o n has f g t p s none e =
       let same : Puts (Forgets link id) ≡ item = cc in subst (Step config past) same (forgets o n has f t)
   of_ask link true true None (Some command) None o n has f g t p s none e =
-      let same : Puts (Sends link (Asks command (id_for link command.body (statements config past).table.links))) ≡ item = cc in
-      subst (Step config past) same (sends o n p s (goes_there link (goes_on config past) g) f t
-      (played_all link None (unplayed (cursor link past) (statements config past)) none) refl)
+      let same : Puts (Sends link (asking_by_check config.causal_timeout_s (routing config past).check command
+      (id_for link command.body (statements config past).table.links))) ≡ item = cc in
+      of_command link command (routing config past).check o n f g t p s
+      (played_all link None (unplayed (cursor link past) (statements config past)) none) refl same
   of_ask link false goes stale command sent o n has f g t p s none e = absurd cc
   of_ask link true false stale command sent o n has f g t p s none e = absurd cc
   of_ask link true true stale None sent o n has f g t p s none e = absurd cc
@@ -141,7 +169,7 @@ module _ (config : Config) (past : List Item) (item : Item) where
   of_due_on link o n has e =
       let play = play_by (is_free true link past) link (stale_on link (statements config past)) (unplayed (cursor link past) (statements config past)) in
       let ask = ask_by (is_free true link past) link (stale_on link (statements config past)) (is_link link (goes_on config past))
-      (asking_for (pending past) link (statements config past).table.links) (sent_on past) in
+      (asking_for config.causal_timeout_s (routing config past).check (pending past) link (statements config past).table.links) (sent_on past) in
       elim (either (prepare_by (is_free false link past) link) (play or ask) item e) [
         | inl prepare ↦ of_prepare link (is_free false link past) o n has refl prepare
         | inr e ↦ elim (first_or play ask item e) [

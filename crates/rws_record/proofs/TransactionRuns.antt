@@ -40,7 +40,9 @@ use Rattle.rws_record.specs.Item.Tell.{Passes}
 use Rattle.rws_record.specs.Item.Recording.{Nothing, Accepts}
 use Rattle.rws_record.specs.Log.{log, mark, total}
 use Rattle.rws_record.specs.Values.{transaction_bytes}
-use Rattle.rws_record.proofs.WorkedRuns.{Does, closes, does_in, drops, from_client, hex, on_link, opens, primary_first, round_in, routes, takes_in, to_client, to_link}
+use Rattle.rws_record.proofs.WorkedRuns.{commits, Does, closes, does_in, drops, from_client, hex, on_link, opens, primary_first, round_in, routes, takes_in, to_client, to_link}
+use Rattle.rws_causal.specs.Commits.{commit_in, commit_of, shown_at, entry_at, variables_at}
+use Rattle.rws_gtid.specs.Parsing as parsing
 
 -- a session is pinned to the link that its transaction is open on: a read goes there, and isn't routed
 begin_pins_the_session : Does
@@ -50,7 +52,7 @@ begin_pins_the_session : Does
     (takes_in primary_first ∷ routes 1 ∷ to_link 1 (codes "12000000037374617274207472616e73616374696f6e") ∷
     to_client 1 (codes "0700000100000003000000") ∷
     to_link 1 (codes "1b0000000353454c45435420622046524f4d20742057484552452069643d31") ∷ [])
-unfolding lenenc lenenc_bytes full_packet spelling number_behind payload_behind first_payload eof_at err_at err_code err_bytes bytes_at number_at fixed_at lenenc_at text_at text_bytes zero_text_at last_text_at ended state_at texts_at ok_at ok_status texts_bytes ok_bytes prepare_ok_at eof_status prepared_counts column_count is_definition is_row progress role client_ok client_form has answer_at name_at attributes_at names_at response_at answer_bytes name_bytes attributes_bytes names_bytes response_front response_bytes abilities_at last_piece_at plugin_at greeting_at abilities_bytes greeting_front back_bytes greeting_bytes switch_at asked_at plugin_asked switch_bytes flags_of response_of reaction class_of same_word key_words forms
+unfolding lenenc lenenc_bytes full_packet spelling number_behind payload_behind first_payload eof_at err_at err_code err_bytes bytes_at number_at fixed_at lenenc_at text_at text_bytes zero_text_at last_text_at ended state_at texts_at ok_at ok_status texts_bytes ok_bytes prepare_ok_at eof_status prepared_counts column_count is_definition is_row progress role client_ok client_form has answer_at name_at attributes_at names_at response_at answer_bytes name_bytes attributes_bytes names_bytes response_front response_bytes abilities_at last_piece_at plugin_at greeting_at abilities_bytes greeting_front back_bytes greeting_bytes switch_at asked_at plugin_asked switch_bytes flags_of response_of reaction class_of same_word key_words forms commit_in commit_of shown_at
 begin_pins_the_session = does_in 16 refl refl
 
 -- a COMMIT ends it, as its OK says, and the next read is routed
@@ -61,8 +63,8 @@ commit_ends_it : Does
     on_link 1 (codes "2a000001000100024000000f526f7773206d6174636865643a2031120010096c6173745f6774696405302d312d31") ∷ End ∷ [])
     (takes_in primary_first ∷ routes 1 ∷ to_link 1 (codes "12000000037374617274207472616e73616374696f6e") ∷
     to_client 1 (codes "0700000100000003000000") ∷ to_link 1 (codes "0c00000003434f4d4d495420574f524b") ∷
-    to_client 1 (codes "17000001000100020000000f526f7773206d6174636865643a2031") ∷ routes 1 ∷ opens 2 1 1 ∷ [])
-unfolding lenenc lenenc_bytes full_packet spelling number_behind payload_behind first_payload eof_at err_at err_code err_bytes bytes_at number_at fixed_at lenenc_at text_at text_bytes zero_text_at last_text_at ended state_at texts_at ok_at ok_status texts_bytes ok_bytes prepare_ok_at eof_status prepared_counts column_count is_definition is_row progress role client_ok client_form has answer_at name_at attributes_at names_at response_at answer_bytes name_bytes attributes_bytes names_bytes response_front response_bytes abilities_at last_piece_at plugin_at greeting_at abilities_bytes greeting_front back_bytes greeting_bytes switch_at asked_at plugin_asked switch_bytes flags_of response_of reaction class_of same_word key_words forms
+    commits 0 1 1 ∷ to_client 1 (codes "17000001000100020000000f526f7773206d6174636865643a2031") ∷ routes 1 ∷ opens 2 1 1 ∷ [])
+unfolding lenenc lenenc_bytes full_packet spelling number_behind payload_behind first_payload eof_at err_at err_code err_bytes bytes_at number_at fixed_at lenenc_at text_at text_bytes zero_text_at last_text_at ended state_at texts_at ok_at ok_status texts_bytes ok_bytes prepare_ok_at eof_status prepared_counts column_count is_definition is_row progress role client_ok client_form has answer_at name_at attributes_at names_at response_at answer_bytes name_bytes attributes_bytes names_bytes response_front response_bytes abilities_at last_piece_at plugin_at greeting_at abilities_bytes greeting_front back_bytes greeting_bytes switch_at asked_at plugin_asked switch_bytes flags_of response_of reaction class_of same_word key_words forms commit_in commit_of shown_at entry_at variables_at parsing.gtid_at parsing.number_at parsing.dash_at
 commit_ends_it = does_in 16 refl refl
 
 -- a COMMIT whose OK shows a transaction leaves it open (`COMMIT AND CHAIN`, say), and the next read stays
@@ -73,9 +75,9 @@ commit_leaves_it_open : Does
     on_link 1 (codes "1b0000010001000340000000120010096c6173745f6774696405302d312d37") ∷ End ∷ [])
     (takes_in primary_first ∷ routes 4 ∷ to_link 1 (codes "0600000003626567696e") ∷
     to_client 4 (codes "0900000100fc2c010003000000") ∷ to_link 1 (codes "0700000003636f6d6d6974") ∷
-    to_client 4 (codes "0700000100010003000000") ∷
+    commits 0 1 7 ∷ to_client 4 (codes "0700000100010003000000") ∷
     to_link 1 (codes "1b0000000353454c45435420622046524f4d20742057484552452069643d31") ∷ [])
-unfolding lenenc lenenc_bytes full_packet spelling number_behind payload_behind first_payload eof_at err_at err_code err_bytes bytes_at number_at fixed_at lenenc_at text_at text_bytes zero_text_at last_text_at ended state_at texts_at ok_at ok_status texts_bytes ok_bytes prepare_ok_at eof_status prepared_counts column_count is_definition is_row progress role client_ok client_form has answer_at name_at attributes_at names_at response_at answer_bytes name_bytes attributes_bytes names_bytes response_front response_bytes abilities_at last_piece_at plugin_at greeting_at abilities_bytes greeting_front back_bytes greeting_bytes switch_at asked_at plugin_asked switch_bytes flags_of response_of reaction class_of same_word key_words forms
+unfolding lenenc lenenc_bytes full_packet spelling number_behind payload_behind first_payload eof_at err_at err_code err_bytes bytes_at number_at fixed_at lenenc_at text_at text_bytes zero_text_at last_text_at ended state_at texts_at ok_at ok_status texts_bytes ok_bytes prepare_ok_at eof_status prepared_counts column_count is_definition is_row progress role client_ok client_form has answer_at name_at attributes_at names_at response_at answer_bytes name_bytes attributes_bytes names_bytes response_front response_bytes abilities_at last_piece_at plugin_at greeting_at abilities_bytes greeting_front back_bytes greeting_bytes switch_at asked_at plugin_asked switch_bytes flags_of response_of reaction class_of same_word key_words forms commit_in commit_of shown_at entry_at variables_at parsing.gtid_at parsing.number_at parsing.dash_at
 commit_leaves_it_open = does_in 16 refl refl
 
 -- a prepare shows nothing of the transaction: its OK has no status, and the transaction stays open; so the next read isn't routed
@@ -88,7 +90,7 @@ a_prepare_leaves_it_open : Does
     to_client 4 (codes "0700000100000003000000") ∷ to_link 1 (codes "0c0000001673617665706f696e742061") ∷
     to_client 4 (codes "0c000001000100000000000000000000") ∷
     to_link 1 (codes "1b0000000353454c45435420622046524f4d20742057484552452069643d31") ∷ [])
-unfolding lenenc lenenc_bytes full_packet spelling number_behind payload_behind first_payload eof_at err_at err_code err_bytes bytes_at number_at fixed_at lenenc_at text_at text_bytes zero_text_at last_text_at ended state_at texts_at ok_at ok_status texts_bytes ok_bytes prepare_ok_at prepare_ok_bytes eof_status prepared_counts column_count is_definition is_row progress role client_ok client_prepared client_form has answer_at name_at attributes_at names_at response_at answer_bytes name_bytes attributes_bytes names_bytes response_front response_bytes abilities_at last_piece_at plugin_at greeting_at abilities_bytes greeting_front back_bytes greeting_bytes switch_at asked_at plugin_asked switch_bytes flags_of response_of reaction class_of same_word key_words forms
+unfolding lenenc lenenc_bytes full_packet spelling number_behind payload_behind first_payload eof_at err_at err_code err_bytes bytes_at number_at fixed_at lenenc_at text_at text_bytes zero_text_at last_text_at ended state_at texts_at ok_at ok_status texts_bytes ok_bytes prepare_ok_at prepare_ok_bytes eof_status prepared_counts column_count is_definition is_row progress role client_ok client_prepared client_form has answer_at name_at attributes_at names_at response_at answer_bytes name_bytes attributes_bytes names_bytes response_front response_bytes abilities_at last_piece_at plugin_at greeting_at abilities_bytes greeting_front back_bytes greeting_bytes switch_at asked_at plugin_asked switch_bytes flags_of response_of reaction class_of same_word key_words forms commit_in commit_of shown_at
 a_prepare_leaves_it_open = does_in 16 refl refl
 
 -- a read-only transaction is open at a replica: a write is refused, and a read goes there; with its link the transaction is
@@ -105,7 +107,7 @@ a_read_only_transaction : Does
     to_client 4 (codes "27000001ffd3042334323030306e6f7420696e206120726561642d6f6e6c79207472616e73616374696f6e") ∷
     to_link 2 (codes "1b0000000353454c45435420622046524f4d20742057484552452069643d31") ∷
     closes 4 (NotReplayable 55 false true true) ∷ drops 1 AtEnd ∷ [])
-unfolding lenenc lenenc_bytes full_packet spelling number_behind payload_behind first_payload eof_at err_at err_code err_bytes bytes_at number_at fixed_at lenenc_at text_at text_bytes zero_text_at last_text_at ended state_at texts_at ok_at ok_status texts_bytes ok_bytes prepare_ok_at eof_status prepared_counts column_count is_definition is_row progress role client_ok client_form has answer_at name_at attributes_at names_at response_at answer_bytes name_bytes attributes_bytes names_bytes response_front response_bytes abilities_at last_piece_at plugin_at greeting_at abilities_bytes greeting_front back_bytes greeting_bytes switch_at asked_at plugin_asked switch_bytes flags_of response_of reaction class_of same_word key_words forms
+unfolding lenenc lenenc_bytes full_packet spelling number_behind payload_behind first_payload eof_at err_at err_code err_bytes bytes_at number_at fixed_at lenenc_at text_at text_bytes zero_text_at last_text_at ended state_at texts_at ok_at ok_status texts_bytes ok_bytes prepare_ok_at eof_status prepared_counts column_count is_definition is_row progress role client_ok client_form has answer_at name_at attributes_at names_at response_at answer_bytes name_bytes attributes_bytes names_bytes response_front response_bytes abilities_at last_piece_at plugin_at greeting_at abilities_bytes greeting_front back_bytes greeting_bytes switch_at asked_at plugin_asked switch_bytes flags_of response_of reaction class_of same_word key_words forms commit_in commit_of shown_at
 a_read_only_transaction = does_in 16 refl refl
 
 -- nobody knows whether a COMMIT was carried out that was out on a lost link
@@ -115,7 +117,7 @@ a_lost_commit : Does
     (takes_in primary_first ∷ routes 1 ∷ to_link 1 (codes "12000000037374617274207472616e73616374696f6e") ∷
     to_client 1 (codes "0700000100000003000000") ∷ to_link 1 (codes "0c00000003434f4d4d495420574f524b") ∷
     closes 1 OutcomeUnknown ∷ [])
-unfolding lenenc lenenc_bytes full_packet spelling number_behind payload_behind first_payload eof_at err_at err_code err_bytes bytes_at number_at fixed_at lenenc_at text_at text_bytes zero_text_at last_text_at ended state_at texts_at ok_at ok_status texts_bytes ok_bytes prepare_ok_at eof_status prepared_counts column_count is_definition is_row progress role client_ok client_form has answer_at name_at attributes_at names_at response_at answer_bytes name_bytes attributes_bytes names_bytes response_front response_bytes abilities_at last_piece_at plugin_at greeting_at abilities_bytes greeting_front back_bytes greeting_bytes switch_at asked_at plugin_asked switch_bytes flags_of response_of reaction class_of same_word key_words forms
+unfolding lenenc lenenc_bytes full_packet spelling number_behind payload_behind first_payload eof_at err_at err_code err_bytes bytes_at number_at fixed_at lenenc_at text_at text_bytes zero_text_at last_text_at ended state_at texts_at ok_at ok_status texts_bytes ok_bytes prepare_ok_at eof_status prepared_counts column_count is_definition is_row progress role client_ok client_form has answer_at name_at attributes_at names_at response_at answer_bytes name_bytes attributes_bytes names_bytes response_front response_bytes abilities_at last_piece_at plugin_at greeting_at abilities_bytes greeting_front back_bytes greeting_bytes switch_at asked_at plugin_asked switch_bytes flags_of response_of reaction class_of same_word key_words forms commit_in commit_of shown_at
 a_lost_commit = does_in 16 refl refl
 
 -- a write in a transaction is lost with it: nothing of it stays on the server, so its outcome isn't unknown
@@ -127,7 +129,7 @@ a_lost_write_in_a_transaction : Does
     to_client 1 (codes "0700000100000003000000") ∷
     to_link 1 (codes "1d00000003696e7365727420696e746f2074202861292076616c75657320283129") ∷
     closes 1 (NotReplayable 47 false false true) ∷ [])
-unfolding lenenc lenenc_bytes full_packet spelling number_behind payload_behind first_payload eof_at err_at err_code err_bytes bytes_at number_at fixed_at lenenc_at text_at text_bytes zero_text_at last_text_at ended state_at texts_at ok_at ok_status texts_bytes ok_bytes prepare_ok_at eof_status prepared_counts column_count is_definition is_row progress role client_ok client_form has answer_at name_at attributes_at names_at response_at answer_bytes name_bytes attributes_bytes names_bytes response_front response_bytes abilities_at last_piece_at plugin_at greeting_at abilities_bytes greeting_front back_bytes greeting_bytes switch_at asked_at plugin_asked switch_bytes flags_of response_of reaction class_of same_word key_words forms
+unfolding lenenc lenenc_bytes full_packet spelling number_behind payload_behind first_payload eof_at err_at err_code err_bytes bytes_at number_at fixed_at lenenc_at text_at text_bytes zero_text_at last_text_at ended state_at texts_at ok_at ok_status texts_bytes ok_bytes prepare_ok_at eof_status prepared_counts column_count is_definition is_row progress role client_ok client_form has answer_at name_at attributes_at names_at response_at answer_bytes name_bytes attributes_bytes names_bytes response_front response_bytes abilities_at last_piece_at plugin_at greeting_at abilities_bytes greeting_front back_bytes greeting_bytes switch_at asked_at plugin_asked switch_bytes flags_of response_of reaction class_of same_word key_words forms commit_in commit_of shown_at
 a_lost_write_in_a_transaction = does_in 16 refl refl
 
 -- an error taints the transaction, and leaves it open
@@ -142,7 +144,7 @@ an_error_taints : Does
     to_client 1 (codes "0700000100000003000000") ∷
     to_link 1 (codes "1b0000000353454c45435420622046524f4d20742057484552452069643d31") ∷
     to_client 1 (codes "12000001ff510423485930303064656164206c6f636b") ∷ closes 1 (NotReplayable 70 true false true) ∷ [])
-unfolding lenenc lenenc_bytes full_packet spelling number_behind payload_behind first_payload eof_at err_at err_code err_bytes bytes_at number_at fixed_at lenenc_at text_at text_bytes zero_text_at last_text_at ended state_at texts_at ok_at ok_status texts_bytes ok_bytes prepare_ok_at eof_status prepared_counts column_count is_definition is_row progress role client_ok client_form has answer_at name_at attributes_at names_at response_at answer_bytes name_bytes attributes_bytes names_bytes response_front response_bytes abilities_at last_piece_at plugin_at greeting_at abilities_bytes greeting_front back_bytes greeting_bytes switch_at asked_at plugin_asked switch_bytes flags_of response_of reaction class_of same_word key_words forms
+unfolding lenenc lenenc_bytes full_packet spelling number_behind payload_behind first_payload eof_at err_at err_code err_bytes bytes_at number_at fixed_at lenenc_at text_at text_bytes zero_text_at last_text_at ended state_at texts_at ok_at ok_status texts_bytes ok_bytes prepare_ok_at eof_status prepared_counts column_count is_definition is_row progress role client_ok client_form has answer_at name_at attributes_at names_at response_at answer_bytes name_bytes attributes_bytes names_bytes response_front response_bytes abilities_at last_piece_at plugin_at greeting_at abilities_bytes greeting_front back_bytes greeting_bytes switch_at asked_at plugin_asked switch_bytes flags_of response_of reaction class_of same_word key_words forms commit_in commit_of shown_at
 an_error_taints = does_in 16 refl refl
 
 -- a BEGIN in a transaction begins the next one: that isn't tainted, and has the bytes of its own commands
@@ -159,7 +161,7 @@ begin_begins_the_next : Does
     to_client 1 (codes "12000001ff510423485930303064656164206c6f636b") ∷
     to_link 1 (codes "2b000000037374617274207472616e73616374696f6e207769746820636f6e73697374656e7420736e617073686f74") ∷
     to_client 1 (codes "0700000100000003000000") ∷ closes 1 (NotReplayable 43 false false true) ∷ [])
-unfolding lenenc lenenc_bytes full_packet spelling number_behind payload_behind first_payload eof_at err_at err_code err_bytes bytes_at number_at fixed_at lenenc_at text_at text_bytes zero_text_at last_text_at ended state_at texts_at ok_at ok_status texts_bytes ok_bytes prepare_ok_at eof_status prepared_counts column_count is_definition is_row progress role client_ok client_form has answer_at name_at attributes_at names_at response_at answer_bytes name_bytes attributes_bytes names_bytes response_front response_bytes abilities_at last_piece_at plugin_at greeting_at abilities_bytes greeting_front back_bytes greeting_bytes switch_at asked_at plugin_asked switch_bytes flags_of response_of reaction class_of same_word key_words forms
+unfolding lenenc lenenc_bytes full_packet spelling number_behind payload_behind first_payload eof_at err_at err_code err_bytes bytes_at number_at fixed_at lenenc_at text_at text_bytes zero_text_at last_text_at ended state_at texts_at ok_at ok_status texts_bytes ok_bytes prepare_ok_at eof_status prepared_counts column_count is_definition is_row progress role client_ok client_form has answer_at name_at attributes_at names_at response_at answer_bytes name_bytes attributes_bytes names_bytes response_front response_bytes abilities_at last_piece_at plugin_at greeting_at abilities_bytes greeting_front back_bytes greeting_bytes switch_at asked_at plugin_asked switch_bytes flags_of response_of reaction class_of same_word key_words forms commit_in commit_of shown_at
 begin_begins_the_next = does_in 16 refl refl
 
 -- the proxy's own OK shows whether a transaction is open
@@ -171,7 +173,7 @@ ping_shows_the_transaction : Does
     to_client 1 (codes "0700000100000003000000") ∷ to_client 1 (codes "0700000100000003000000") ∷
     to_link 1 (codes "0900000003726f6c6c6261636b") ∷ to_client 1 (codes "0700000100000002000000") ∷
     to_client 1 (codes "0700000100000002000000") ∷ [])
-unfolding lenenc lenenc_bytes full_packet spelling number_behind payload_behind first_payload eof_at err_at err_code err_bytes bytes_at number_at fixed_at lenenc_at text_at text_bytes zero_text_at last_text_at ended state_at texts_at ok_at ok_status texts_bytes ok_bytes prepare_ok_at eof_status prepared_counts column_count is_definition is_row progress role client_ok client_form has answer_at name_at attributes_at names_at response_at answer_bytes name_bytes attributes_bytes names_bytes response_front response_bytes abilities_at last_piece_at plugin_at greeting_at abilities_bytes greeting_front back_bytes greeting_bytes switch_at asked_at plugin_asked switch_bytes flags_of response_of reaction class_of same_word key_words forms
+unfolding lenenc lenenc_bytes full_packet spelling number_behind payload_behind first_payload eof_at err_at err_code err_bytes bytes_at number_at fixed_at lenenc_at text_at text_bytes zero_text_at last_text_at ended state_at texts_at ok_at ok_status texts_bytes ok_bytes prepare_ok_at eof_status prepared_counts column_count is_definition is_row progress role client_ok client_form has answer_at name_at attributes_at names_at response_at answer_bytes name_bytes attributes_bytes names_bytes response_front response_bytes abilities_at last_piece_at plugin_at greeting_at abilities_bytes greeting_front back_bytes greeting_bytes switch_at asked_at plugin_asked switch_bytes flags_of response_of reaction class_of same_word key_words forms commit_in commit_of shown_at
 ping_shows_the_transaction = does_in 16 refl refl
 
 -- `set autocommit=off` opens no transaction, and is played on another link, whose reply says nothing of the session; a read is
@@ -183,7 +185,7 @@ autocommit_off_is_played : Does
     (takes_in primary_first ∷ routes 1 ∷ opens 2 0 1 ∷ to_link 2 (codes "1300000003736574206175746f636f6d6d69743d6f6666") ∷
     to_client 1 (codes "0700000100000000000000") ∷ to_link 1 (codes "1300000003736574206175746f636f6d6d69743d6f6666") ∷
     to_client 1 (codes "0700000100000000000000") ∷ routes 1 ∷ to_link 2 (codes "090000000373656c6563742031") ∷ [])
-unfolding lenenc lenenc_bytes full_packet spelling number_behind payload_behind first_payload eof_at err_at err_code err_bytes bytes_at number_at fixed_at lenenc_at text_at text_bytes zero_text_at last_text_at ended state_at texts_at ok_at ok_status texts_bytes ok_bytes prepare_ok_at eof_status prepared_counts column_count is_definition is_row progress role client_ok client_form has answer_at name_at attributes_at names_at response_at answer_bytes name_bytes attributes_bytes names_bytes response_front response_bytes abilities_at last_piece_at plugin_at greeting_at abilities_bytes greeting_front back_bytes greeting_bytes switch_at asked_at plugin_asked switch_bytes flags_of response_of reaction class_of same_word refused_names setting_names forms
+unfolding lenenc lenenc_bytes full_packet spelling number_behind payload_behind first_payload eof_at err_at err_code err_bytes bytes_at number_at fixed_at lenenc_at text_at text_bytes zero_text_at last_text_at ended state_at texts_at ok_at ok_status texts_bytes ok_bytes prepare_ok_at eof_status prepared_counts column_count is_definition is_row progress role client_ok client_form has answer_at name_at attributes_at names_at response_at answer_bytes name_bytes attributes_bytes names_bytes response_front response_bytes abilities_at last_piece_at plugin_at greeting_at abilities_bytes greeting_front back_bytes greeting_bytes switch_at asked_at plugin_asked switch_bytes flags_of response_of reaction class_of same_word refused_names setting_names forms commit_in commit_of shown_at
 autocommit_off_is_played = does_in 16 refl refl
 
 -- a reply counts before what is behind it: the transaction is over when its link is given up, and the session goes on
@@ -194,7 +196,7 @@ the_reply_counts_before_the_loss : Does
     (takes_in primary_first ∷ routes 1 ∷ to_link 1 (codes "12000000037374617274207472616e73616374696f6e") ∷
     to_client 1 (codes "0700000100000003000000") ∷ to_link 1 (codes "0900000003726f6c6c6261636b") ∷
     to_client 1 (codes "0700000100000002000000") ∷ drops 1 Unasked ∷ to_client 1 (codes "0700000100000002000000") ∷ [])
-unfolding lenenc lenenc_bytes full_packet spelling number_behind payload_behind first_payload eof_at err_at err_code err_bytes bytes_at number_at fixed_at lenenc_at text_at text_bytes zero_text_at last_text_at ended state_at texts_at ok_at ok_status texts_bytes ok_bytes prepare_ok_at eof_status prepared_counts column_count is_definition is_row progress role client_ok client_form has answer_at name_at attributes_at names_at response_at answer_bytes name_bytes attributes_bytes names_bytes response_front response_bytes abilities_at last_piece_at plugin_at greeting_at abilities_bytes greeting_front back_bytes greeting_bytes switch_at asked_at plugin_asked switch_bytes flags_of response_of reaction class_of same_word key_words forms
+unfolding lenenc lenenc_bytes full_packet spelling number_behind payload_behind first_payload eof_at err_at err_code err_bytes bytes_at number_at fixed_at lenenc_at text_at text_bytes zero_text_at last_text_at ended state_at texts_at ok_at ok_status texts_bytes ok_bytes prepare_ok_at eof_status prepared_counts column_count is_definition is_row progress role client_ok client_form has answer_at name_at attributes_at names_at response_at answer_bytes name_bytes attributes_bytes names_bytes response_front response_bytes abilities_at last_piece_at plugin_at greeting_at abilities_bytes greeting_front back_bytes greeting_bytes switch_at asked_at plugin_asked switch_bytes flags_of response_of reaction class_of same_word key_words forms commit_in commit_of shown_at
 the_reply_counts_before_the_loss = does_in 16 refl refl
 
 -- with autocommit off a read opens a transaction, where its reply says so
@@ -209,7 +211,7 @@ a_read_opens_one : Does
     to_client 1 (codes "0100000101") ∷ to_client 1 (codes "17000002036465660000000161000c2d000a000000fd0000000000") ∷
     to_client 1 (codes "05000003fe00000200") ∷ to_client 1 (codes "020000040135") ∷ to_client 1 (codes "05000005fe00000100") ∷
     to_client 1 (codes "0700000100000001000000") ∷ closes 1 (NotReplayable 9 false false true) ∷ [])
-unfolding lenenc lenenc_bytes full_packet spelling number_behind payload_behind first_payload eof_at err_at err_code err_bytes bytes_at number_at fixed_at lenenc_at text_at text_bytes zero_text_at last_text_at ended state_at texts_at ok_at ok_status texts_bytes ok_bytes prepare_ok_at eof_status prepared_counts column_count is_definition is_row progress role client_ok client_form has answer_at name_at attributes_at names_at response_at answer_bytes name_bytes attributes_bytes names_bytes response_front response_bytes abilities_at last_piece_at plugin_at greeting_at abilities_bytes greeting_front back_bytes greeting_bytes switch_at asked_at plugin_asked switch_bytes flags_of response_of reaction class_of same_word refused_names setting_names forms
+unfolding lenenc lenenc_bytes full_packet spelling number_behind payload_behind first_payload eof_at err_at err_code err_bytes bytes_at number_at fixed_at lenenc_at text_at text_bytes zero_text_at last_text_at ended state_at texts_at ok_at ok_status texts_bytes ok_bytes prepare_ok_at eof_status prepared_counts column_count is_definition is_row progress role client_ok client_form has answer_at name_at attributes_at names_at response_at answer_bytes name_bytes attributes_bytes names_bytes response_front response_bytes abilities_at last_piece_at plugin_at greeting_at abilities_bytes greeting_front back_bytes greeting_bytes switch_at asked_at plugin_asked switch_bytes flags_of response_of reaction class_of same_word refused_names setting_names forms commit_in commit_of shown_at
 a_read_opens_one = does_in 16 refl refl
 
 -- what a replica says of a transaction isn't heard, unless it was asked to begin one
@@ -222,7 +224,7 @@ a_reply_of_a_replica : Does
     to_link 1 (codes "1b0000000353454c45435420622046524f4d20742057484552452069643d31") ∷ to_client 1 (codes "0100000101") ∷
     to_client 1 (codes "17000002036465660000000161000c2d000a000000fd0000000000") ∷ to_client 1 (codes "05000003fe00000200") ∷
     to_client 1 (codes "05000004fe00000300") ∷ to_client 1 (codes "0700000100000002000000") ∷ [])
-unfolding lenenc lenenc_bytes full_packet spelling number_behind payload_behind first_payload eof_at err_at err_code err_bytes bytes_at number_at fixed_at lenenc_at text_at text_bytes zero_text_at last_text_at ended state_at texts_at ok_at ok_status texts_bytes ok_bytes prepare_ok_at eof_status prepared_counts column_count is_definition is_row progress role client_ok client_form has answer_at name_at attributes_at names_at response_at answer_bytes name_bytes attributes_bytes names_bytes response_front response_bytes abilities_at last_piece_at plugin_at greeting_at abilities_bytes greeting_front back_bytes greeting_bytes switch_at asked_at plugin_asked switch_bytes flags_of response_of reaction class_of same_word key_words forms
+unfolding lenenc lenenc_bytes full_packet spelling number_behind payload_behind first_payload eof_at err_at err_code err_bytes bytes_at number_at fixed_at lenenc_at text_at text_bytes zero_text_at last_text_at ended state_at texts_at ok_at ok_status texts_bytes ok_bytes prepare_ok_at eof_status prepared_counts column_count is_definition is_row progress role client_ok client_form has answer_at name_at attributes_at names_at response_at answer_bytes name_bytes attributes_bytes names_bytes response_front response_bytes abilities_at last_piece_at plugin_at greeting_at abilities_bytes greeting_front back_bytes greeting_bytes switch_at asked_at plugin_asked switch_bytes flags_of response_of reaction class_of same_word key_words forms commit_in commit_of shown_at
 a_reply_of_a_replica = does_in 16 refl refl
 
 -- where the session is kept on the link of its transaction, what it has set is lost first
@@ -233,7 +235,7 @@ a_kept_transaction : Does
     (takes_in primary_first ∷ routes 1 ∷ to_link 1 (codes "12000000037374617274207472616e73616374696f6e") ∷
     to_client 1 (codes "0700000100000003000000") ∷ to_link 1 (codes "020000000378") ∷
     to_client 1 (codes "0700000100000003000000") ∷ closes 1 SessionState ∷ [])
-unfolding lenenc lenenc_bytes full_packet spelling number_behind payload_behind first_payload eof_at err_at err_code err_bytes bytes_at number_at fixed_at lenenc_at text_at text_bytes zero_text_at last_text_at ended state_at texts_at ok_at ok_status texts_bytes ok_bytes prepare_ok_at eof_status prepared_counts column_count is_definition is_row progress role client_ok client_form has answer_at name_at attributes_at names_at response_at answer_bytes name_bytes attributes_bytes names_bytes response_front response_bytes abilities_at last_piece_at plugin_at greeting_at abilities_bytes greeting_front back_bytes greeting_bytes switch_at asked_at plugin_asked switch_bytes flags_of response_of reaction class_of same_word key_words forms
+unfolding lenenc lenenc_bytes full_packet spelling number_behind payload_behind first_payload eof_at err_at err_code err_bytes bytes_at number_at fixed_at lenenc_at text_at text_bytes zero_text_at last_text_at ended state_at texts_at ok_at ok_status texts_bytes ok_bytes prepare_ok_at eof_status prepared_counts column_count is_definition is_row progress role client_ok client_form has answer_at name_at attributes_at names_at response_at answer_bytes name_bytes attributes_bytes names_bytes response_front response_bytes abilities_at last_piece_at plugin_at greeting_at abilities_bytes greeting_front back_bytes greeting_bytes switch_at asked_at plugin_asked switch_bytes flags_of response_of reaction class_of same_word key_words forms commit_in commit_of shown_at
 a_kept_transaction = does_in 16 refl refl
 
 -- The log of a transaction: the commands that were answered in it, from the one that began it, each with its reply, and an error is one.

@@ -3,7 +3,7 @@ use Rattle.std.proofs.Common.{◌≡◌, ℕ, Bool, true, false, List, [], ◌�
 use Rattle.rws_config.specs.declared.config.Config.{Config}
 use Rattle.rws_record.specs.Item.{Item, Put}
 use Rattle.rws_record.specs.Item.Item.{Accepted, TurnsAway, Began, ClientBytes, LinkReady, LinkBytes, ClientGone, LinkLost, Ticks, Routed, Puts, Starves}
-use Rattle.rws_record.specs.Item.Put.{Hands, Tells, Routes, Opens, LogsInto, Sends, Forgets, Drops, Closes}
+use Rattle.rws_record.specs.Item.Put.{Hands, Tells, Records, Routes, Opens, LogsInto, Sends, Forgets, Drops, Closes}
 use Rattle.rws_pool.specs.declared.words.PoolWords.{PoolWords}
 use Rattle.rws_select.specs.declared.selector.Load.{Load}
 use Rattle.rws_route.specs.declared.destination.Target.{Target}
@@ -15,7 +15,7 @@ use Rattle.rws_record.specs.Record.GoesOn.{stays, then as goes_then}
 use Rattle.rws_record.proofs.OpeningLemmas.{asks_owing_nothing}
 use Rattle.rws_record.proofs.StepLemmas.{Due, Step, of_next, rests_owing_nothing}
 use Rattle.rws_record.proofs.StepLemmas.Due.{comes, connects, takes}
-use Rattle.rws_record.proofs.StepLemmas.Step.{pays, asks, prepares, forgets, plays, sends, floods, reads}
+use Rattle.rws_record.proofs.StepLemmas.Step.{pays, asks, prepares, forgets, plays, sends, waits_first, probes_first, floods, reads}
 
 -- No step, and nothing that is heard, is want of memory
 
@@ -31,7 +31,9 @@ step_starved (asks o n p g w) = refl
 step_starved (prepares o n has f) = refl
 step_starved (forgets o n has f t) = refl
 step_starved (plays o n has f t s) = refl
-step_starved (sends o n p s g f t d i) = refl
+step_starved (sends o n p s g f t d i c) = refl
+step_starved (waits_first o n p s g f t d c) = refl
+step_starved (probes_first o n p s g f t d c) = refl
 step_starved (floods o n p above) = refl
 step_starved (reads o n due) = due_starved due
 
@@ -61,6 +63,7 @@ closes_behind [] others soon = soon
 closes_behind (Hands packets ∷ rest) others soon = closes_behind rest others soon
 closes_behind (Tells number tell ∷ rest) others soon = closes_behind rest others soon
 closes_behind (Routes ∷ rest) others soon = closes_behind rest others soon
+closes_behind (Records server gtid ∷ rest) others soon = closes_behind rest others soon
 closes_behind (Opens link server login ∷ rest) others soon = closes_behind rest others soon
 closes_behind (LogsInto link packets ∷ rest) others soon = closes_behind rest others soon
 closes_behind (Sends link purpose ∷ rest) others soon = closes_behind rest others soon
@@ -80,6 +83,7 @@ pays_ending : {config : Config} {past : List Item} (put : Put) {others : List Pu
 pays_ending (Hands packets) o (ended over) = ended over
 pays_ending (Tells number tell) o (ended over) = ended over
 pays_ending Routes o (ended over) = ended over
+pays_ending (Records server gtid) o (ended over) = ended over
 pays_ending (Opens link server login) o (ended over) = ended over
 pays_ending (LogsInto link packets) o (ended over) = ended over
 pays_ending (Sends to purpose) o (ended over) = ended over
@@ -89,6 +93,7 @@ pays_ending (Closes reason) o (ended over) = ended refl
 pays_ending (Closes reason) o (ends soon) = ended refl
 pays_ending (Hands packets) o (ends soon) = ends (rw o (rw o at soon))
 pays_ending Routes o (ends soon) = ends (rw o (rw o at soon))
+pays_ending (Records server gtid) o (ends soon) = ends (rw o (rw o at soon))
 pays_ending (Opens link server login) o (ends soon) = ends (rw o (rw o at soon))
 pays_ending (LogsInto link packets) o (ends soon) = ends (rw o (rw o at soon))
 pays_ending (Forgets link id) o (ends soon) = ends (rw o (rw o at soon))
@@ -105,7 +110,9 @@ step_ending (asks o n p g w) ending = goes_no_further o n ending
 step_ending (prepares o n has f) ending = goes_no_further o n ending
 step_ending (forgets o n has f t) ending = goes_no_further o n ending
 step_ending (plays o n has f t s) ending = goes_no_further o n ending
-step_ending (sends o n p s g f t d i) ending = goes_no_further o n ending
+step_ending (sends o n p s g f t d i c) ending = goes_no_further o n ending
+step_ending (waits_first o n p s g f t d c) ending = goes_no_further o n ending
+step_ending (probes_first o n p s g f t d c) ending = goes_no_further o n ending
 step_ending (floods o n p above) ending = goes_no_further o n ending
 step_ending (reads o n due) ending = goes_no_further o n ending
 

@@ -25,7 +25,7 @@ use Rattle.rws_board.specs.declared.event.Event.{Event}
 use Rattle.rws_board.specs.declared.event.Event.TheVariants.{Begin, ClientBytes, ClientGone, Clock, LinkBytes, LinkGone, Observed, End}
 use Rattle.rws_board.specs.declared.interaction.Interaction.{Interaction}
 use Rattle.rws_board.specs.declared.interaction.Interaction.TheVariants.{Took, Told}
-use Rattle.rws_pool.specs.declared.events.PoolCall.TheVariants.{Observe, Route}
+use Rattle.rws_pool.specs.declared.events.PoolCall.TheVariants.{Observe, Record, Route}
 use Rattle.rws_pool.specs.declared.words.Round.{Round}
 use Rattle.rws_pool.specs.declared.words.Seen.{Seen}
 use Rattle.rws_pool.specs.declared.words.State.{State}
@@ -40,6 +40,8 @@ use Rattle.rws_record.specs.Run.IsRun.{starts, came, goes_on, starves}
 use Rattle.rws_commands.specs.declared.command.Command.{Command}
 use Rattle.rws_record.specs.Rules.{flood_by, flood_limit}
 use Rattle.rws_record.proofs.EntryLemmas.{of_next_entry, same_events}
+use Rattle.rws_causal.specs.Commits.{commit_in, commit_of, shown_at, entry_at, variables_at}
+use Rattle.rws_gtid.specs.Parsing as parsing
 
 -- The run over events, computed
 
@@ -195,6 +197,10 @@ closes session reason = Took (Close session reason)
 abbrev pub routes : ℕ → Interaction
 routes session = Told (Route session)
 
+-- a commit of domain 0 is told of
+abbrev pub commits : (server number sequence : ℕ) → Interaction
+commits server number sequence = Told (Record server (record { domain = 0; server = number; sequence = sequence }))
+
 abbrev pub takes_in : Round → Interaction
 takes_in round = Told (Observe round)
 
@@ -213,33 +219,33 @@ primary_first = round_in Master Slave Slave
 nothing_happens : Does
     (End ∷ [])
     []
-unfolding lenenc lenenc_bytes full_packet spelling number_behind payload_behind first_payload eof_at err_at err_code err_bytes bytes_at number_at fixed_at lenenc_at text_at text_bytes ended state_at texts_at ok_at ok_status texts_bytes ok_bytes prepare_ok_at eof_status prepared_counts column_count is_definition is_row progress role client_ok client_form class_of same_word
+unfolding lenenc lenenc_bytes full_packet spelling number_behind payload_behind first_payload eof_at err_at err_code err_bytes bytes_at number_at fixed_at lenenc_at text_at text_bytes ended state_at texts_at ok_at ok_status texts_bytes ok_bytes prepare_ok_at eof_status prepared_counts column_count is_definition is_row progress role client_ok client_form class_of same_word commit_in commit_of shown_at
 nothing_happens = does_in 16 refl refl
 
 ping : Does
     (Begin 1 0 ∷ from_client 1 (codes "010000000e") ∷ End ∷ [])
     (to_client 1 (codes "0700000100000002000000") ∷ [])
-unfolding lenenc lenenc_bytes full_packet spelling number_behind payload_behind first_payload eof_at err_at err_code err_bytes bytes_at number_at fixed_at lenenc_at text_at text_bytes ended state_at texts_at ok_at ok_status texts_bytes ok_bytes prepare_ok_at eof_status prepared_counts column_count is_definition is_row progress role client_ok client_form class_of same_word
+unfolding lenenc lenenc_bytes full_packet spelling number_behind payload_behind first_payload eof_at err_at err_code err_bytes bytes_at number_at fixed_at lenenc_at text_at text_bytes ended state_at texts_at ok_at ok_status texts_bytes ok_bytes prepare_ok_at eof_status prepared_counts column_count is_definition is_row progress role client_ok client_form class_of same_word commit_in commit_of shown_at
 ping = does_in 16 refl refl
 
 two_pings_in_one_piece : Does
     (Begin 1 0 ∷ from_client 1 (codes "010000000e010000000e") ∷ End ∷ [])
     (to_client 1 (codes "0700000100000002000000") ∷ to_client 1 (codes "0700000100000002000000") ∷ [])
-unfolding lenenc lenenc_bytes full_packet spelling number_behind payload_behind first_payload eof_at err_at err_code err_bytes bytes_at number_at fixed_at lenenc_at text_at text_bytes ended state_at texts_at ok_at ok_status texts_bytes ok_bytes prepare_ok_at eof_status prepared_counts column_count is_definition is_row progress role client_ok client_form class_of same_word
+unfolding lenenc lenenc_bytes full_packet spelling number_behind payload_behind first_payload eof_at err_at err_code err_bytes bytes_at number_at fixed_at lenenc_at text_at text_bytes ended state_at texts_at ok_at ok_status texts_bytes ok_bytes prepare_ok_at eof_status prepared_counts column_count is_definition is_row progress role client_ok client_form class_of same_word commit_in commit_of shown_at
 two_pings_in_one_piece = does_in 16 refl refl
 
 ping_in_five_pieces : Does
     (Begin 1 0 ∷ from_client 1 (codes "01") ∷ from_client 1 (codes "00") ∷ from_client 1 (codes "00") ∷
     from_client 1 (codes "00") ∷ from_client 1 (codes "0e") ∷ End ∷ [])
     (to_client 1 (codes "0700000100000002000000") ∷ [])
-unfolding lenenc lenenc_bytes full_packet spelling number_behind payload_behind first_payload eof_at err_at err_code err_bytes bytes_at number_at fixed_at lenenc_at text_at text_bytes ended state_at texts_at ok_at ok_status texts_bytes ok_bytes prepare_ok_at eof_status prepared_counts column_count is_definition is_row progress role client_ok client_form class_of same_word
+unfolding lenenc lenenc_bytes full_packet spelling number_behind payload_behind first_payload eof_at err_at err_code err_bytes bytes_at number_at fixed_at lenenc_at text_at text_bytes ended state_at texts_at ok_at ok_status texts_bytes ok_bytes prepare_ok_at eof_status prepared_counts column_count is_definition is_row progress role client_ok client_form class_of same_word commit_in commit_of shown_at
 ping_in_five_pieces = does_in 16 refl refl
 
 -- a text that would set what the proxy stands on is sent to nobody: `set session server_id=2`
 refused_text : Does
     (Begin 1 0 ∷ from_client 1 (codes "18000000037365742073657373696f6e207365727665725f69643d32") ∷ End ∷ [])
     (to_client 1 (codes "16000001ffd3042334323030306e6f7420737570706f72746564") ∷ [])
-unfolding lenenc lenenc_bytes full_packet spelling number_behind payload_behind first_payload eof_at err_at err_code err_bytes bytes_at number_at fixed_at lenenc_at text_at text_bytes ended state_at texts_at ok_at ok_status texts_bytes ok_bytes prepare_ok_at eof_status prepared_counts column_count is_definition is_row progress role client_ok client_form class_of same_word refused_names
+unfolding lenenc lenenc_bytes full_packet spelling number_behind payload_behind first_payload eof_at err_at err_code err_bytes bytes_at number_at fixed_at lenenc_at text_at text_bytes ended state_at texts_at ok_at ok_status texts_bytes ok_bytes prepare_ok_at eof_status prepared_counts column_count is_definition is_row progress role client_ok client_form class_of same_word refused_names commit_in commit_of shown_at
 refused_text = does_in 16 refl refl
 
 -- the fault shows at the header, and what was sent before it is answered
@@ -248,7 +254,7 @@ out_of_order : Does
     (to_client 1 (codes "0700000100000002000000") ∷
     to_client 1 (codes "1d000001ff84042330385330317061636b657473206f7574206f66206f72646572") ∷
     closes 1 (OutOfOrder 0 1) ∷ drops 1 AtEnd ∷ [])
-unfolding lenenc lenenc_bytes full_packet spelling number_behind payload_behind first_payload eof_at err_at err_code err_bytes bytes_at number_at fixed_at lenenc_at text_at text_bytes ended state_at texts_at ok_at ok_status texts_bytes ok_bytes prepare_ok_at eof_status prepared_counts column_count is_definition is_row progress role client_ok client_form class_of same_word
+unfolding lenenc lenenc_bytes full_packet spelling number_behind payload_behind first_payload eof_at err_at err_code err_bytes bytes_at number_at fixed_at lenenc_at text_at text_bytes ended state_at texts_at ok_at ok_status texts_bytes ok_bytes prepare_ok_at eof_status prepared_counts column_count is_definition is_row progress role client_ok client_form class_of same_word commit_in commit_of shown_at
 out_of_order = does_in 16 refl refl
 
 -- a command of no name, an empty one, and the end
@@ -258,7 +264,7 @@ unknown_then_quit : Does
     (to_client 1 (codes "18000001ff1704233038533031756e6b6e6f776e20636f6d6d616e64") ∷
     to_client 1 (codes "18000001ff1704233038533031756e6b6e6f776e20636f6d6d616e64") ∷ closes 1 Quit ∷
     drops 1 AtEnd ∷ [])
-unfolding lenenc lenenc_bytes full_packet spelling number_behind payload_behind first_payload eof_at err_at err_code err_bytes bytes_at number_at fixed_at lenenc_at text_at text_bytes ended state_at texts_at ok_at ok_status texts_bytes ok_bytes prepare_ok_at eof_status prepared_counts column_count is_definition is_row progress role client_ok client_form class_of same_word
+unfolding lenenc lenenc_bytes full_packet spelling number_behind payload_behind first_payload eof_at err_at err_code err_bytes bytes_at number_at fixed_at lenenc_at text_at text_bytes ended state_at texts_at ok_at ok_status texts_bytes ok_bytes prepare_ok_at eof_status prepared_counts column_count is_definition is_row progress role client_ok client_form class_of same_word commit_in commit_of shown_at
 unknown_then_quit = does_in 16 refl refl
 
 -- COM_SET_OPTION, COM_STMT_FETCH and COM_RESET_CONNECTION
@@ -268,14 +274,14 @@ not_supported : Does
     (to_client 1 (codes "16000001ffd3042334323030306e6f7420737570706f72746564") ∷
     to_client 1 (codes "16000001ffd3042334323030306e6f7420737570706f72746564") ∷
     to_client 1 (codes "16000001ffd3042334323030306e6f7420737570706f72746564") ∷ [])
-unfolding lenenc lenenc_bytes full_packet spelling number_behind payload_behind first_payload eof_at err_at err_code err_bytes bytes_at number_at fixed_at lenenc_at text_at text_bytes ended state_at texts_at ok_at ok_status texts_bytes ok_bytes prepare_ok_at eof_status prepared_counts column_count is_definition is_row progress role client_ok client_form class_of same_word
+unfolding lenenc lenenc_bytes full_packet spelling number_behind payload_behind first_payload eof_at err_at err_code err_bytes bytes_at number_at fixed_at lenenc_at text_at text_bytes ended state_at texts_at ok_at ok_status texts_bytes ok_bytes prepare_ok_at eof_status prepared_counts column_count is_definition is_row progress role client_ok client_form class_of same_word commit_in commit_of shown_at
 not_supported = does_in 16 refl refl
 
 answered_then_lost : Does
     (Observed primary_first ∷ Begin 1 0 ∷ from_client 1 (codes "020000000378") ∷ on_link 1 (codes "0700000100000002000000") ∷ LinkGone 1 ∷
     End ∷ [])
     (takes_in primary_first ∷ routes 1 ∷ to_link 1 (codes "020000000378") ∷ to_client 1 (codes "0700000100000002000000") ∷ closes 1 SessionState ∷ [])
-unfolding lenenc lenenc_bytes full_packet spelling number_behind payload_behind first_payload eof_at err_at err_code err_bytes bytes_at number_at fixed_at lenenc_at text_at text_bytes ended state_at texts_at ok_at ok_status texts_bytes ok_bytes prepare_ok_at eof_status prepared_counts column_count is_definition is_row progress role client_ok client_form class_of same_word
+unfolding lenenc lenenc_bytes full_packet spelling number_behind payload_behind first_payload eof_at err_at err_code err_bytes bytes_at number_at fixed_at lenenc_at text_at text_bytes ended state_at texts_at ok_at ok_status texts_bytes ok_bytes prepare_ok_at eof_status prepared_counts column_count is_definition is_row progress role client_ok client_form class_of same_word commit_in commit_of shown_at
 answered_then_lost = does_in 16 refl refl
 
 -- the link is gone already, so it isn't dropped
@@ -283,7 +289,7 @@ lost_with_a_command : Does
     (Observed primary_first ∷ Begin 1 0 ∷ from_client 1 (codes "020000000378") ∷ LinkGone 1 ∷ on_link 1 (codes "0700000100000002000000") ∷
     End ∷ [])
     (takes_in primary_first ∷ routes 1 ∷ to_link 1 (codes "020000000378") ∷ closes 1 OutcomeUnknown ∷ [])
-unfolding lenenc lenenc_bytes full_packet spelling number_behind payload_behind first_payload eof_at err_at err_code err_bytes bytes_at number_at fixed_at lenenc_at text_at text_bytes ended state_at texts_at ok_at ok_status texts_bytes ok_bytes prepare_ok_at eof_status prepared_counts column_count is_definition is_row progress role client_ok client_form class_of same_word
+unfolding lenenc lenenc_bytes full_packet spelling number_behind payload_behind first_payload eof_at err_at err_code err_bytes bytes_at number_at fixed_at lenenc_at text_at text_bytes ended state_at texts_at ok_at ok_status texts_bytes ok_bytes prepare_ok_at eof_status prepared_counts column_count is_definition is_row progress role client_ok client_form class_of same_word commit_in commit_of shown_at
 lost_with_a_command = does_in 16 refl refl
 
 -- what waits behind a command is taken up when its reply is whole
@@ -292,15 +298,15 @@ one_after_the_other : Does
     on_link 1 (codes "000002000000") ∷ End ∷ [])
     (takes_in primary_first ∷ routes 1 ∷ to_link 1 (codes "020000000378") ∷ to_client 1 (codes "0700000100000002000000") ∷
     to_client 1 (codes "0700000100000002000000") ∷ closes 1 Quit ∷ drops 1 AtEnd ∷ [])
-unfolding lenenc lenenc_bytes full_packet spelling number_behind payload_behind first_payload eof_at err_at err_code err_bytes bytes_at number_at fixed_at lenenc_at text_at text_bytes ended state_at texts_at ok_at ok_status texts_bytes ok_bytes prepare_ok_at eof_status prepared_counts column_count is_definition is_row progress role client_ok client_form class_of same_word
+unfolding lenenc lenenc_bytes full_packet spelling number_behind payload_behind first_payload eof_at err_at err_code err_bytes bytes_at number_at fixed_at lenenc_at text_at text_bytes ended state_at texts_at ok_at ok_status texts_bytes ok_bytes prepare_ok_at eof_status prepared_counts column_count is_definition is_row progress role client_ok client_form class_of same_word commit_in commit_of shown_at
 one_after_the_other = does_in 16 refl refl
 
 -- an OK that names the GTID 0-1-7 is passed on without the session's state, and without the status bit 0x4000 that tells of it
 ok_without_its_state : Does
     (Observed primary_first ∷ Begin 1 0 ∷ from_client 1 (codes "020000000378") ∷
     on_link 1 (codes "1b0000010001000240000000120010096c6173745f6774696405302d312d37") ∷ End ∷ [])
-    (takes_in primary_first ∷ routes 1 ∷ to_link 1 (codes "020000000378") ∷ to_client 1 (codes "0700000100010002000000") ∷ [])
-unfolding lenenc lenenc_bytes full_packet spelling number_behind payload_behind first_payload eof_at err_at err_code err_bytes bytes_at number_at fixed_at lenenc_at text_at text_bytes ended state_at texts_at ok_at ok_status texts_bytes ok_bytes prepare_ok_at eof_status prepared_counts column_count is_definition is_row progress role client_ok client_form class_of same_word
+    (takes_in primary_first ∷ routes 1 ∷ to_link 1 (codes "020000000378") ∷ commits 0 1 7 ∷ to_client 1 (codes "0700000100010002000000") ∷ [])
+unfolding lenenc lenenc_bytes full_packet spelling number_behind payload_behind first_payload eof_at err_at err_code err_bytes bytes_at number_at fixed_at lenenc_at text_at text_bytes ended state_at texts_at ok_at ok_status texts_bytes ok_bytes prepare_ok_at eof_status prepared_counts column_count is_definition is_row progress role client_ok client_form class_of same_word commit_in commit_of shown_at entry_at variables_at parsing.gtid_at parsing.number_at parsing.dash_at
 ok_without_its_state = does_in 16 refl refl
 
 -- what stands where rows stand is a row, even if it could be read as such an OK; an EOF keeps its status
@@ -312,7 +318,7 @@ row_like_an_ok : Does
     to_client 1 (codes "17000002036465660000000161000c2d000a000000fd0000000000") ∷
     to_client 1 (codes "05000003fe00000200") ∷ to_client 1 (codes "0700000400000002400000") ∷
     to_client 1 (codes "05000005fe00000240") ∷ [])
-unfolding lenenc lenenc_bytes full_packet spelling number_behind payload_behind first_payload eof_at err_at err_code err_bytes bytes_at number_at fixed_at lenenc_at text_at text_bytes ended state_at texts_at ok_at ok_status texts_bytes ok_bytes prepare_ok_at eof_status prepared_counts column_count is_definition is_row progress role client_ok client_form class_of same_word
+unfolding lenenc lenenc_bytes full_packet spelling number_behind payload_behind first_payload eof_at err_at err_code err_bytes bytes_at number_at fixed_at lenenc_at text_at text_bytes ended state_at texts_at ok_at ok_status texts_bytes ok_bytes prepare_ok_at eof_status prepared_counts column_count is_definition is_row progress role client_ok client_form class_of same_word commit_in commit_of shown_at
 row_like_an_ok = does_in 16 refl refl
 
 error_of_a_server : Does
@@ -320,7 +326,7 @@ error_of_a_server : Does
     from_client 1 (codes "010000000e") ∷ End ∷ [])
     (takes_in primary_first ∷ routes 1 ∷ to_link 1 (codes "020000000378") ∷ to_client 1 (codes "0b000001ff7a042334325330326e6f") ∷
     to_client 1 (codes "0700000100000002000000") ∷ [])
-unfolding lenenc lenenc_bytes full_packet spelling number_behind payload_behind first_payload eof_at err_at err_code err_bytes bytes_at number_at fixed_at lenenc_at text_at text_bytes ended state_at texts_at ok_at ok_status texts_bytes ok_bytes prepare_ok_at eof_status prepared_counts column_count is_definition is_row progress role client_ok client_form class_of same_word
+unfolding lenenc lenenc_bytes full_packet spelling number_behind payload_behind first_payload eof_at err_at err_code err_bytes bytes_at number_at fixed_at lenenc_at text_at text_bytes ended state_at texts_at ok_at ok_status texts_bytes ok_bytes prepare_ok_at eof_status prepared_counts column_count is_definition is_row progress role client_ok client_form class_of same_word commit_in commit_of shown_at
 error_of_a_server = does_in 16 refl refl
 
 -- an EOF where a reply begins
@@ -328,7 +334,7 @@ no_reply : Does
     (Observed primary_first ∷ Begin 1 0 ∷ from_client 1 (codes "020000000378") ∷
     on_link 1 (codes "05000001fe0000020017000002036465660000000161000c2d000a000000fd0000000000") ∷ End ∷ [])
     (takes_in primary_first ∷ routes 1 ∷ to_link 1 (codes "020000000378") ∷ drops 1 BadReply ∷ closes 1 OutcomeUnknown ∷ [])
-unfolding lenenc lenenc_bytes full_packet spelling number_behind payload_behind first_payload eof_at err_at err_code err_bytes bytes_at number_at fixed_at lenenc_at text_at text_bytes ended state_at texts_at ok_at ok_status texts_bytes ok_bytes prepare_ok_at eof_status prepared_counts column_count is_definition is_row progress role client_ok client_form class_of same_word
+unfolding lenenc lenenc_bytes full_packet spelling number_behind payload_behind first_payload eof_at err_at err_code err_bytes bytes_at number_at fixed_at lenenc_at text_at text_bytes ended state_at texts_at ok_at ok_status texts_bytes ok_bytes prepare_ok_at eof_status prepared_counts column_count is_definition is_row progress role client_ok client_form class_of same_word commit_in commit_of shown_at
 no_reply = does_in 16 refl refl
 
 -- packets are passed on as they are whole, however the bytes are cut
@@ -340,7 +346,7 @@ rows_in_parts : Does
     to_client 1 (codes "17000002036465660000000161000c2d000a000000fd0000000000") ∷
     to_client 1 (codes "05000003fe00000200") ∷ to_client 1 (codes "020000040136") ∷
     to_client 1 (codes "01000005fb") ∷ to_client 1 (codes "05000006fe00000200") ∷ [])
-unfolding lenenc lenenc_bytes full_packet spelling number_behind payload_behind first_payload eof_at err_at err_code err_bytes bytes_at number_at fixed_at lenenc_at text_at text_bytes ended state_at texts_at ok_at ok_status texts_bytes ok_bytes prepare_ok_at eof_status prepared_counts column_count is_definition is_row progress role client_ok client_form class_of same_word
+unfolding lenenc lenenc_bytes full_packet spelling number_behind payload_behind first_payload eof_at err_at err_code err_bytes bytes_at number_at fixed_at lenenc_at text_at text_bytes ended state_at texts_at ok_at ok_status texts_bytes ok_bytes prepare_ok_at eof_status prepared_counts column_count is_definition is_row progress role client_ok client_form class_of same_word commit_in commit_of shown_at
 rows_in_parts = does_in 16 refl refl
 
 error_behind_rows : Does
@@ -351,7 +357,7 @@ error_behind_rows : Does
     to_client 4 (codes "17000002036465660000000161000c2d000a000000fd0000000000") ∷
     to_client 4 (codes "05000003fe00000200") ∷ to_client 4 (codes "020000040135") ∷
     to_client 4 (codes "12000005ffbd0423485930303064656164206c6f636b") ∷ [])
-unfolding lenenc lenenc_bytes full_packet spelling number_behind payload_behind first_payload eof_at err_at err_code err_bytes bytes_at number_at fixed_at lenenc_at text_at text_bytes ended state_at texts_at ok_at ok_status texts_bytes ok_bytes prepare_ok_at eof_status prepared_counts column_count is_definition is_row progress role client_ok client_form class_of same_word
+unfolding lenenc lenenc_bytes full_packet spelling number_behind payload_behind first_payload eof_at err_at err_code err_bytes bytes_at number_at fixed_at lenenc_at text_at text_bytes ended state_at texts_at ok_at ok_status texts_bytes ok_bytes prepare_ok_at eof_status prepared_counts column_count is_definition is_row progress role client_ok client_form class_of same_word commit_in commit_of shown_at
 error_behind_rows = does_in 16 refl refl
 
 -- a reply goes on behind an EOF, and behind an OK, that announces another result
@@ -365,7 +371,7 @@ more_results : Does
     to_client 1 (codes "05000003fe00000a00") ∷ to_client 1 (codes "020000040135") ∷
     to_client 1 (codes "05000005fe00000a00") ∷ to_client 1 (codes "070000060000000a000000") ∷
     to_client 1 (codes "0700000700000002000000") ∷ to_client 1 (codes "0700000100000002000000") ∷ [])
-unfolding lenenc lenenc_bytes full_packet spelling number_behind payload_behind first_payload eof_at err_at err_code err_bytes bytes_at number_at fixed_at lenenc_at text_at text_bytes ended state_at texts_at ok_at ok_status texts_bytes ok_bytes prepare_ok_at eof_status prepared_counts column_count is_definition is_row progress role client_ok client_form class_of same_word
+unfolding lenenc lenenc_bytes full_packet spelling number_behind payload_behind first_payload eof_at err_at err_code err_bytes bytes_at number_at fixed_at lenenc_at text_at text_bytes ended state_at texts_at ok_at ok_status texts_bytes ok_bytes prepare_ok_at eof_status prepared_counts column_count is_definition is_row progress role client_ok client_form class_of same_word commit_in commit_of shown_at
 more_results = does_in 16 refl refl
 
 -- definitions without their number before them
@@ -376,7 +382,7 @@ field_list : Does
     (takes_in primary_first ∷ routes 1 ∷ to_link 1 (codes "03000000047400") ∷
     to_client 1 (codes "18000001036465660000000161000c2d000a000000fd0000000000fb") ∷
     to_client 1 (codes "05000002fe00000200") ∷ to_client 1 (codes "0700000100000002000000") ∷ [])
-unfolding lenenc lenenc_bytes full_packet spelling number_behind payload_behind first_payload eof_at err_at err_code err_bytes bytes_at number_at fixed_at lenenc_at text_at text_bytes ended state_at texts_at ok_at ok_status texts_bytes ok_bytes prepare_ok_at eof_status prepared_counts column_count is_definition is_row progress role client_ok client_form class_of same_word
+unfolding lenenc lenenc_bytes full_packet spelling number_behind payload_behind first_payload eof_at err_at err_code err_bytes bytes_at number_at fixed_at lenenc_at text_at text_bytes ended state_at texts_at ok_at ok_status texts_bytes ok_bytes prepare_ok_at eof_status prepared_counts column_count is_definition is_row progress role client_ok client_form class_of same_word commit_in commit_of shown_at
 field_list = does_in 16 refl refl
 
 loss_cuts_a_result : Does
@@ -385,7 +391,7 @@ loss_cuts_a_result : Does
     from_client 1 (codes "010000000e") ∷ End ∷ [])
     (takes_in primary_first ∷ routes 1 ∷ to_link 1 (codes "020000000378") ∷ to_client 1 (codes "0100000101") ∷
     to_client 1 (codes "17000002036465660000000161000c2d000a000000fd0000000000") ∷ closes 1 ResultCut ∷ [])
-unfolding lenenc lenenc_bytes full_packet spelling number_behind payload_behind first_payload eof_at err_at err_code err_bytes bytes_at number_at fixed_at lenenc_at text_at text_bytes ended state_at texts_at ok_at ok_status texts_bytes ok_bytes prepare_ok_at eof_status prepared_counts column_count is_definition is_row progress role client_ok client_form class_of same_word
+unfolding lenenc lenenc_bytes full_packet spelling number_behind payload_behind first_payload eof_at err_at err_code err_bytes bytes_at number_at fixed_at lenenc_at text_at text_bytes ended state_at texts_at ok_at ok_status texts_bytes ok_bytes prepare_ok_at eof_status prepared_counts column_count is_definition is_row progress role client_ok client_form class_of same_word commit_in commit_of shown_at
 loss_cuts_a_result = does_in 16 refl refl
 
 -- a packet under a wrong number
@@ -396,13 +402,13 @@ fault_cuts_a_result : Does
     (takes_in primary_first ∷ routes 4 ∷ to_link 1 (codes "020000000378") ∷ to_client 4 (codes "0100000101") ∷
     to_client 4 (codes "17000002036465660000000161000c2d000a000000fd0000000000") ∷
     to_client 4 (codes "05000003fe00000200") ∷ drops 1 BadWire ∷ closes 4 ResultCut ∷ [])
-unfolding lenenc lenenc_bytes full_packet spelling number_behind payload_behind first_payload eof_at err_at err_code err_bytes bytes_at number_at fixed_at lenenc_at text_at text_bytes ended state_at texts_at ok_at ok_status texts_bytes ok_bytes prepare_ok_at eof_status prepared_counts column_count is_definition is_row progress role client_ok client_form class_of same_word
+unfolding lenenc lenenc_bytes full_packet spelling number_behind payload_behind first_payload eof_at err_at err_code err_bytes bytes_at number_at fixed_at lenenc_at text_at text_bytes ended state_at texts_at ok_at ok_status texts_bytes ok_bytes prepare_ok_at eof_status prepared_counts column_count is_definition is_row progress role client_ok client_form class_of same_word commit_in commit_of shown_at
 fault_cuts_a_result = does_in 16 refl refl
 
 bad_wire : Does
     (Observed primary_first ∷ Begin 1 0 ∷ from_client 1 (codes "020000000378") ∷ on_link 1 (codes "0700000200000002000000") ∷ End ∷ [])
     (takes_in primary_first ∷ routes 1 ∷ to_link 1 (codes "020000000378") ∷ drops 1 BadWire ∷ closes 1 OutcomeUnknown ∷ [])
-unfolding lenenc lenenc_bytes full_packet spelling number_behind payload_behind first_payload eof_at err_at err_code err_bytes bytes_at number_at fixed_at lenenc_at text_at text_bytes ended state_at texts_at ok_at ok_status texts_bytes ok_bytes prepare_ok_at eof_status prepared_counts column_count is_definition is_row progress role client_ok client_form class_of same_word
+unfolding lenenc lenenc_bytes full_packet spelling number_behind payload_behind first_payload eof_at err_at err_code err_bytes bytes_at number_at fixed_at lenenc_at text_at text_bytes ended state_at texts_at ok_at ok_status texts_bytes ok_bytes prepare_ok_at eof_status prepared_counts column_count is_definition is_row progress role client_ok client_form class_of same_word commit_in commit_of shown_at
 bad_wire = does_in 16 refl refl
 
 byte_behind_a_reply : Does
@@ -410,7 +416,7 @@ byte_behind_a_reply : Does
     End ∷ [])
     (takes_in primary_first ∷ routes 1 ∷ to_link 1 (codes "020000000378") ∷ to_client 1 (codes "0700000100000002000000") ∷ drops 1 Unasked ∷
     closes 1 SessionState ∷ [])
-unfolding lenenc lenenc_bytes full_packet spelling number_behind payload_behind first_payload eof_at err_at err_code err_bytes bytes_at number_at fixed_at lenenc_at text_at text_bytes ended state_at texts_at ok_at ok_status texts_bytes ok_bytes prepare_ok_at eof_status prepared_counts column_count is_definition is_row progress role client_ok client_form class_of same_word
+unfolding lenenc lenenc_bytes full_packet spelling number_behind payload_behind first_payload eof_at err_at err_code err_bytes bytes_at number_at fixed_at lenenc_at text_at text_bytes ended state_at texts_at ok_at ok_status texts_bytes ok_bytes prepare_ok_at eof_status prepared_counts column_count is_definition is_row progress role client_ok client_form class_of same_word commit_in commit_of shown_at
 byte_behind_a_reply = does_in 16 refl refl
 
 -- three sessions in turn, on the links 1, 2 and 3: one that is kept isn't routed again, and one that sent nothing outlasts the loss of its
@@ -425,7 +431,7 @@ three_sessions : Does
     to_client 5 (codes "0700000100000002000000") ∷ to_client 7 (codes "0700000100000003000000") ∷
     to_client 9 (codes "0700000100000002000000") ∷ closes 7 SessionState ∷ to_link 3 (codes "020000000378") ∷
     drops 1 Unasked ∷ drops 3 AtEnd ∷ [])
-unfolding lenenc lenenc_bytes full_packet spelling number_behind payload_behind first_payload eof_at err_at err_code err_bytes bytes_at number_at fixed_at lenenc_at text_at text_bytes ended state_at texts_at ok_at ok_status texts_bytes ok_bytes prepare_ok_at eof_status prepared_counts column_count is_definition is_row progress role client_ok client_form class_of same_word
+unfolding lenenc lenenc_bytes full_packet spelling number_behind payload_behind first_payload eof_at err_at err_code err_bytes bytes_at number_at fixed_at lenenc_at text_at text_bytes ended state_at texts_at ok_at ok_status texts_bytes ok_bytes prepare_ok_at eof_status prepared_counts column_count is_definition is_row progress role client_ok client_form class_of same_word commit_in commit_of shown_at
 three_sessions = does_in 16 refl refl
 
 -- a fault on one session's link is none of the other session's business
@@ -434,7 +440,7 @@ one_link_breaks : Does
     on_link 1 (codes "01000002") ∷ on_link 2 (codes "0700000100000002000000") ∷ End ∷ [])
     (takes_in primary_first ∷ routes 1 ∷ to_link 1 (codes "020000000378") ∷ routes 2 ∷ to_link 2 (codes "020000000378") ∷ drops 1 BadWire ∷
     closes 1 OutcomeUnknown ∷ to_client 2 (codes "0700000100000002000000") ∷ [])
-unfolding lenenc lenenc_bytes full_packet spelling number_behind payload_behind first_payload eof_at err_at err_code err_bytes bytes_at number_at fixed_at lenenc_at text_at text_bytes ended state_at texts_at ok_at ok_status texts_bytes ok_bytes prepare_ok_at eof_status prepared_counts column_count is_definition is_row progress role client_ok client_form class_of same_word
+unfolding lenenc lenenc_bytes full_packet spelling number_behind payload_behind first_payload eof_at err_at err_code err_bytes bytes_at number_at fixed_at lenenc_at text_at text_bytes ended state_at texts_at ok_at ok_status texts_bytes ok_bytes prepare_ok_at eof_status prepared_counts column_count is_definition is_row progress role client_ok client_form class_of same_word commit_in commit_of shown_at
 one_link_breaks = does_in 16 refl refl
 
 -- a client that is gone is told nothing more, and closes nothing
@@ -442,7 +448,7 @@ client_gone : Does
     (Observed primary_first ∷ Begin 1 0 ∷ from_client 1 (codes "020000000378") ∷ ClientGone 1 ∷
     on_link 1 (codes "0700000100000002000000") ∷ from_client 1 (codes "010000000e") ∷ ClientGone 1 ∷ End ∷ [])
     (takes_in primary_first ∷ routes 1 ∷ to_link 1 (codes "020000000378") ∷ drops 1 AtEnd ∷ [])
-unfolding lenenc lenenc_bytes full_packet spelling number_behind payload_behind first_payload eof_at err_at err_code err_bytes bytes_at number_at fixed_at lenenc_at text_at text_bytes ended state_at texts_at ok_at ok_status texts_bytes ok_bytes prepare_ok_at eof_status prepared_counts column_count is_definition is_row progress role client_ok client_form class_of same_word
+unfolding lenenc lenenc_bytes full_packet spelling number_behind payload_behind first_payload eof_at err_at err_code err_bytes bytes_at number_at fixed_at lenenc_at text_at text_bytes ended state_at texts_at ok_at ok_status texts_bytes ok_bytes prepare_ok_at eof_status prepared_counts column_count is_definition is_row progress role client_ok client_form class_of same_word commit_in commit_of shown_at
 client_gone = does_in 16 refl refl
 
 -- a session that is over hears nothing, and its number isn't given again
@@ -450,7 +456,7 @@ session_over : Does
     (Begin 1 0 ∷ from_client 1 (codes "0100000001010000000e") ∷ from_client 1 (codes "010000000e") ∷
     on_link 1 (codes "00") ∷ LinkGone 1 ∷ ClientGone 1 ∷ Begin 1 0 ∷ from_client 1 (codes "010000000e") ∷ End ∷ [])
     (closes 1 Quit ∷ drops 1 AtEnd ∷ [])
-unfolding lenenc lenenc_bytes full_packet spelling number_behind payload_behind first_payload eof_at err_at err_code err_bytes bytes_at number_at fixed_at lenenc_at text_at text_bytes ended state_at texts_at ok_at ok_status texts_bytes ok_bytes prepare_ok_at eof_status prepared_counts column_count is_definition is_row progress role client_ok client_form class_of same_word
+unfolding lenenc lenenc_bytes full_packet spelling number_behind payload_behind first_payload eof_at err_at err_code err_bytes bytes_at number_at fixed_at lenenc_at text_at text_bytes ended state_at texts_at ok_at ok_status texts_bytes ok_bytes prepare_ok_at eof_status prepared_counts column_count is_definition is_row progress role client_ok client_form class_of same_word commit_in commit_of shown_at
 session_over = does_in 16 refl refl
 
 -- a server that the settings don't have: no session begins and no link is opened, but the number is gone
@@ -458,7 +464,7 @@ no_such_server : Does
     (Observed primary_first ∷ Begin 5 3 ∷ from_client 5 (codes "010000000e") ∷ Begin 4 0 ∷ from_client 4 (codes "010000000e") ∷ Begin 5 0 ∷
     from_client 5 (codes "010000000e") ∷ Begin 6 0 ∷ from_client 6 (codes "020000000378") ∷ End ∷ [])
     (takes_in primary_first ∷ routes 6 ∷ to_link 1 (codes "020000000378") ∷ [])
-unfolding lenenc lenenc_bytes full_packet spelling number_behind payload_behind first_payload eof_at err_at err_code err_bytes bytes_at number_at fixed_at lenenc_at text_at text_bytes ended state_at texts_at ok_at ok_status texts_bytes ok_bytes prepare_ok_at eof_status prepared_counts column_count is_definition is_row progress role client_ok client_form class_of same_word
+unfolding lenenc lenenc_bytes full_packet spelling number_behind payload_behind first_payload eof_at err_at err_code err_bytes bytes_at number_at fixed_at lenenc_at text_at text_bytes ended state_at texts_at ok_at ok_status texts_bytes ok_bytes prepare_ok_at eof_status prepared_counts column_count is_definition is_row progress role client_ok client_form class_of same_word commit_in commit_of shown_at
 no_such_server = does_in 16 refl refl
 
 -- Floods under the built-in settings: nothing is too much at the limit, or while no command is pending; above it, it is the
@@ -484,7 +490,7 @@ want_for_a_command : Does
     from_client 2 (codes "010000000e") ∷ on_link 1 (codes "0700000100000002000000") ∷ End ∷ [])
     (to_client 1 (codes "16000001ff0d042348593030316f7574206f66206d656d6f7279") ∷ closes 1 Memory ∷ drops 1 AtEnd ∷
     to_client 2 (codes "0700000100000002000000") ∷ [])
-unfolding lenenc lenenc_bytes full_packet spelling number_behind payload_behind first_payload eof_at err_at err_code err_bytes bytes_at number_at fixed_at lenenc_at text_at text_bytes ended state_at texts_at ok_at ok_status texts_bytes ok_bytes prepare_ok_at eof_status prepared_counts column_count is_definition is_row progress role client_ok client_form class_of same_word
+unfolding lenenc lenenc_bytes full_packet spelling number_behind payload_behind first_payload eof_at err_at err_code err_bytes bytes_at number_at fixed_at lenenc_at text_at text_bytes ended state_at texts_at ok_at ok_status texts_bytes ok_bytes prepare_ok_at eof_status prepared_counts column_count is_definition is_row progress role client_ok client_form class_of same_word commit_in commit_of shown_at
 want_for_a_command =
     wants_in 2 1 true (Begin 1 0 ∷ Begin 2 1 ∷ []) (from_client 1 (codes "020000000378"))
     (from_client 1 (codes "010000000e") ∷ from_client 2 (codes "010000000e") ∷
@@ -494,7 +500,7 @@ want_for_a_command =
 want_for_bytes : Does
     (Begin 1 0 ∷ from_client 1 (codes "02") ∷ End ∷ [])
     (to_client 1 (codes "16000001ff0d042348593030316f7574206f66206d656d6f7279") ∷ closes 1 Memory ∷ drops 1 AtEnd ∷ [])
-unfolding lenenc lenenc_bytes full_packet spelling number_behind payload_behind first_payload eof_at err_at err_code err_bytes bytes_at number_at fixed_at lenenc_at text_at text_bytes ended state_at texts_at ok_at ok_status texts_bytes ok_bytes prepare_ok_at eof_status prepared_counts column_count is_definition is_row progress role client_ok client_form class_of same_word
+unfolding lenenc lenenc_bytes full_packet spelling number_behind payload_behind first_payload eof_at err_at err_code err_bytes bytes_at number_at fixed_at lenenc_at text_at text_bytes ended state_at texts_at ok_at ok_status texts_bytes ok_bytes prepare_ok_at eof_status prepared_counts column_count is_definition is_row progress role client_ok client_form class_of same_word commit_in commit_of shown_at
 want_for_bytes = wants_in 1 1 true (Begin 1 0 ∷ []) (from_client 1 (codes "02")) (End ∷ []) _ refl refl refl tt refl refl
 
 -- behind a payload of a reply: what was told stands
@@ -503,7 +509,7 @@ want_in_a_reply : Does
     on_link 1 (codes "010000010117000002036465660000000161000c2d000a000000fd0000000000") ∷ End ∷ [])
     (takes_in primary_first ∷ routes 1 ∷ to_link 1 (codes "020000000378") ∷ to_client 1 (codes "0100000101") ∷
     to_client 1 (codes "16000001ff0d042348593030316f7574206f66206d656d6f7279") ∷ closes 1 Memory ∷ drops 1 AtEnd ∷ [])
-unfolding lenenc lenenc_bytes full_packet spelling number_behind payload_behind first_payload eof_at err_at err_code err_bytes bytes_at number_at fixed_at lenenc_at text_at text_bytes ended state_at texts_at ok_at ok_status texts_bytes ok_bytes prepare_ok_at eof_status prepared_counts column_count is_definition is_row progress role client_form class_of same_word
+unfolding lenenc lenenc_bytes full_packet spelling number_behind payload_behind first_payload eof_at err_at err_code err_bytes bytes_at number_at fixed_at lenenc_at text_at text_bytes ended state_at texts_at ok_at ok_status texts_bytes ok_bytes prepare_ok_at eof_status prepared_counts column_count is_definition is_row progress role client_form class_of same_word commit_in commit_of shown_at
 want_in_a_reply =
     wants_in 3 1 true (Observed primary_first ∷ Begin 1 0 ∷ from_client 1 (codes "020000000378") ∷ [])
     (on_link 1 (codes "010000010117000002036465660000000161000c2d000a000000fd0000000000")) (End ∷ []) _ refl refl refl tt refl refl
@@ -512,21 +518,21 @@ want_in_a_reply =
 want_at_a_loss : Does
     (Begin 1 0 ∷ LinkGone 1 ∷ End ∷ [])
     (to_client 1 (codes "16000001ff0d042348593030316f7574206f66206d656d6f7279") ∷ closes 1 Memory ∷ [])
-unfolding lenenc lenenc_bytes full_packet spelling number_behind payload_behind first_payload eof_at err_at err_code err_bytes bytes_at number_at fixed_at lenenc_at text_at text_bytes ended state_at texts_at ok_at ok_status texts_bytes ok_bytes prepare_ok_at eof_status prepared_counts column_count is_definition is_row progress role client_ok client_form class_of same_word
+unfolding lenenc lenenc_bytes full_packet spelling number_behind payload_behind first_payload eof_at err_at err_code err_bytes bytes_at number_at fixed_at lenenc_at text_at text_bytes ended state_at texts_at ok_at ok_status texts_bytes ok_bytes prepare_ok_at eof_status prepared_counts column_count is_definition is_row progress role client_ok client_form class_of same_word commit_in commit_of shown_at
 want_at_a_loss = wants_in 1 1 true (Begin 1 0 ∷ []) (LinkGone 1) (End ∷ []) _ refl refl refl tt refl refl
 
 -- a session that was closed already gives up its link
 want_behind_a_close : Does
     (Begin 1 0 ∷ from_client 1 (codes "0100000001") ∷ End ∷ [])
     (closes 1 Quit ∷ drops 1 AtEnd ∷ [])
-unfolding lenenc lenenc_bytes full_packet spelling number_behind payload_behind first_payload eof_at err_at err_code err_bytes bytes_at number_at fixed_at lenenc_at text_at text_bytes ended state_at texts_at ok_at ok_status texts_bytes ok_bytes prepare_ok_at eof_status prepared_counts column_count is_definition is_row progress role client_ok client_form class_of same_word
+unfolding lenenc lenenc_bytes full_packet spelling number_behind payload_behind first_payload eof_at err_at err_code err_bytes bytes_at number_at fixed_at lenenc_at text_at text_bytes ended state_at texts_at ok_at ok_status texts_bytes ok_bytes prepare_ok_at eof_status prepared_counts column_count is_definition is_row progress role client_ok client_form class_of same_word commit_in commit_of shown_at
 want_behind_a_close = wants_in 3 1 true (Begin 1 0 ∷ []) (from_client 1 (codes "0100000001")) (End ∷ []) _ refl refl refl tt refl refl
 
 -- for the session itself: its client is told nothing
 want_for_a_session : Does
     (Begin 1 0 ∷ Begin 2 0 ∷ from_client 1 (codes "010000000e") ∷ from_client 2 (codes "010000000e") ∷ End ∷ [])
     (closes 1 Memory ∷ drops 1 AtEnd ∷ to_client 2 (codes "0700000100000002000000") ∷ [])
-unfolding lenenc lenenc_bytes full_packet spelling number_behind payload_behind first_payload eof_at err_at err_code err_bytes bytes_at number_at fixed_at lenenc_at text_at text_bytes ended state_at texts_at ok_at ok_status texts_bytes ok_bytes prepare_ok_at eof_status prepared_counts column_count is_definition is_row progress role client_ok client_form class_of same_word
+unfolding lenenc lenenc_bytes full_packet spelling number_behind payload_behind first_payload eof_at err_at err_code err_bytes bytes_at number_at fixed_at lenenc_at text_at text_bytes ended state_at texts_at ok_at ok_status texts_bytes ok_bytes prepare_ok_at eof_status prepared_counts column_count is_definition is_row progress role client_ok client_form class_of same_word commit_in commit_of shown_at
 want_for_a_session =
     wants_in 1 1 false [] (Begin 1 0) (Begin 2 0 ∷ from_client 1 (codes "010000000e") ∷ from_client 2 (codes "010000000e") ∷ End ∷ [])
     _ refl refl refl tt refl refl
@@ -545,7 +551,7 @@ rounds_are_taken_in : Does
     Observed (primary_and_replica None) ∷ End ∷ [])
     (takes_in (primary_and_replica None) ∷ to_client 1 (codes "0700000100000002000000") ∷
     takes_in (primary_and_replica None) ∷ [])
-unfolding lenenc lenenc_bytes full_packet spelling number_behind payload_behind first_payload eof_at err_at err_code err_bytes bytes_at number_at fixed_at lenenc_at text_at text_bytes ended state_at texts_at ok_at ok_status texts_bytes ok_bytes prepare_ok_at eof_status prepared_counts column_count is_definition is_row progress role client_ok client_form class_of same_word
+unfolding lenenc lenenc_bytes full_packet spelling number_behind payload_behind first_payload eof_at err_at err_code err_bytes bytes_at number_at fixed_at lenenc_at text_at text_bytes ended state_at texts_at ok_at ok_status texts_bytes ok_bytes prepare_ok_at eof_status prepared_counts column_count is_definition is_row progress role client_ok client_form class_of same_word commit_in commit_of shown_at
 rounds_are_taken_in = does_in 16 refl refl
 
 -- one that names a fourth server isn't, whatever it says of it

@@ -3,8 +3,8 @@
 use Rattle.std.specs.Prelude.{ℕ, Bool, List, Option}
 use Rattle.rws_wire.specs.declared.close_reason.CloseReason.{CloseReason}
 use Rattle.rws_wire.specs.declared.drop_cause.DropCause.{DropCause}
-use Rattle.rws_reply.specs.declared.kind.Outcome.{Outcome}
 use Rattle.rws_native.specs.declared.login.Login.{Login}
+use Rattle.rws_gtid.specs.declared.Gtid.{Gtid}
 use Rattle.rws_front.specs.declared.step.FrontStep.{FrontStep}
 use Rattle.rws_link.specs.declared.step.LinkStep.{LinkStep}
 use Rattle.rws_pool.specs.declared.words.PoolWords.{PoolWords}
@@ -24,6 +24,9 @@ pub data Purpose : Type 0 where
   Asks : Command → (id : Option ℕ) → Purpose
   -- it set the session on another link before: an entry of the session's history
   Plays : HistoryEntry → Purpose
+  -- before a read that is to see a commit: a replica is to wait for it, so many seconds at most; the primary is to tell its position
+  Waits : Gtid → (seconds : ℕ) → Purpose
+  Probes : Gtid → Purpose
 
 -- what the end of a reply means for the session's history
 pub data Recording : Type 0 where
@@ -49,6 +52,8 @@ pub data Put : Type 0 where
   Hands : (packets : List ℕ) → Put
   -- to the client, in packets from this number on
   Tells : (number : ℕ) → Tell → Put
+  -- the words of the pool are told of a commit that a server made, before anybody else is
+  Records : (server : ℕ) → Gtid → Put
   -- the worker is asked for the words of the pool and its loads, by which the pending command's target is found
   Routes : Put
   -- a link to this server is opened, on which the client's login is repeated

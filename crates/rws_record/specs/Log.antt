@@ -1,5 +1,5 @@
 -- The log of a session's transaction: the commands that were answered in it, each with the reply that the client has.
-use Rattle.std.specs.Prelude.{ℕ, ◌+◌, Bool, true, false, List, [], ◌∷◌, ◌++◌, length, Some}
+use Rattle.std.specs.Prelude.{ℕ, ◌+◌, Bool, true, false, List, [], ◌∷◌, ◌++◌, Some}
 use Rattle.rws_trx.specs.declared.state.Course.{Course}
 use Rattle.rws_trx.specs.OnLinks.{by_course, course_of}
 use Rattle.rws_config.specs.declared.config.Config.{Config}

@@ -2,7 +2,7 @@
 -- goes on by `next` until it rests, and then by what comes from outside.
 --
 -- Rules come in two levels: a function of plain values, and one line that fills in the values of a record.
-use Rattle.std.specs.Prelude.{ℕ, ◌+◌, nat_lt, Bool, true, false, not, ◌&&◌, ◌==◌, List, [], ◌∷◌, ◌++◌, length, map, drop, Option, Some, None, is_some, slice_get, if◌then◌else◌}
+use Rattle.std.specs.Prelude.{ℕ, ◌+◌, nat_lt, Bool, true, false, not, ◌&&◌, ◌==◌, List, [], ◌∷◌, ◌++◌, length, map, drop, Option, Some, None, is_some, if◌then◌else◌}
 use Rattle.std.specs.Option.{option_map}
 use Rattle.rws_wire.specs.declared.close_reason.CloseReason.{CloseReason}
 use Rattle.rws_wire.specs.declared.close_reason.CloseReason.TheVariants as reasons
@@ -10,12 +10,17 @@ use Rattle.rws_wire.specs.declared.drop_cause.DropCause.{DropCause}
 use Rattle.rws_wire.specs.declared.drop_cause.DropCause.TheVariants as causes
 use Rattle.rws_wire.specs.declared.drop_cause.DropCause.TheVariants.{Unasked, End, Kept, Replay}
 use Rattle.rws_msgs.specs.declared.prepare_ok.PrepareOk.{PrepareOk}
+use Rattle.rws_gtid.specs.declared.Gtid.{Gtid}
+use Rattle.rws_causal.specs.declared.causal.Causal.{Causal}
+use Rattle.rws_causal.specs.declared.causal.Causal.TheVariants.{Stale, Unreadable}
+use Rattle.rws_causal.specs.Commits.{commit_in}
 use Rattle.rws_native.specs.declared.login.Login.{Login}
 use Rattle.rws_reply.specs.declared.kind.Outcome.{Outcome}
 use Rattle.rws_reply.specs.declared.kind.Outcome.TheVariants.{Done, Failed}
 use Rattle.rws_reply.specs.declared.kind.Progress.{Progress}
 use Rattle.rws_reply.specs.declared.kind.Progress.TheVariants.{More, Whole as Ends}
 use Rattle.rws_reply.specs.declared.role.Role.{Role}
+use Rattle.rws_reply.specs.declared.role.Role.TheVariants.{Ok as OkRole}
 use Rattle.rws_reply.specs.ClientForm.{client_form}
 use Rattle.rws_front.specs.declared.step.FrontStep.{FrontStep}
 use Rattle.rws_front.specs.declared.step.FrontStep.TheVariants as fronts
@@ -38,23 +43,22 @@ use Rattle.rws_route.specs.Targets.{target_of}
 use Rattle.rws_routing.specs.Routings.{finds_late, server_in}
 use Rattle.rws_config.specs.declared.config.Config.{Config}
 use Rattle.rws_config.specs.declared.limits.TheConstants.{FLOOD_ROOM}
-use Rattle.rws_handles.specs.LinkIds.{Ids}
 use Rattle.rws_commands.specs.declared.command.Command.{Command}
 use Rattle.rws_commands.specs.declared.history.HistoryEntry.{HistoryEntry}
 use Rattle.rws_commands.specs.declared.judged.Judged.{Judged}
 use Rattle.rws_commands.specs.declared.judged.Judged.TheVariants.{Leaves, IsOwn, IsRefused, IsSilent, HasTooMuch, Serves}
 use Rattle.rws_commands.specs.declared.judged.Situation.{Situation}
-use Rattle.rws_commands.specs.declared.proxy_error.ProxyError.TheVariants.{TooManyConnections, CommandTooLarge, NoPrimary, OutOfMemory}
+use Rattle.rws_commands.specs.declared.proxy_error.ProxyError.TheVariants.{TooManyConnections, CommandTooLarge, NoPrimary, PrimaryBehind, OutOfMemory}
 use Rattle.rws_commands.specs.Commands.{class_of_command, is_session, keeps}
 use Rattle.rws_commands.specs.Judging.{judged}
 use Rattle.rws_commands.specs.Statements.{Statements, is_full, is_otherwise, next_handle, stale_on, swept_if, unplayed}
-use Rattle.rws_record.specs.Item.{Ending, Item, Purpose, Put, Recording}
+use Rattle.rws_record.specs.Item.{Item, Purpose, Put, Recording}
 use Rattle.rws_record.specs.Item.Item.{Accepted, TurnsAway, Began, ClientBytes, LinkReady, LinkBytes, ClientGone, LinkLost, Ticks, Routed, Comes, Connects, Takes, Floods, Puts, Starves}
-use Rattle.rws_record.specs.Item.Put.{Hands, Tells, Routes, Opens, LogsInto, Sends, Forgets, Drops, Closes}
+use Rattle.rws_record.specs.Item.Put.{Hands, Tells, Records, Routes, Opens, LogsInto, Sends, Forgets, Drops, Closes}
 use Rattle.rws_record.specs.Item.Tell.{Passes, Owns, Refuses}
-use Rattle.rws_record.specs.Item.Purpose.{Prepares, Asks, Plays}
+use Rattle.rws_record.specs.Item.Purpose.{Prepares, Asks, Plays, Waits, Probes}
 use Rattle.rws_record.specs.Item.Recording.{Nothing, Accepts, Keeps}
-use Rattle.rws_record.specs.Values.{asking_for, banned, class_by_pending, cursor, ends_transaction, fronted, goes_on, held, login_of, links, link_to, contains, without, kept_on, linked, is_up, asked_on, named_in, named_on, now, pending, routing, sent_on, statements, told_from, reply_number, transaction, transaction_bytes, asking, is_over}
+use Rattle.rws_record.specs.Values.{asking_for, banned, checked_on, class_by_pending, cursor, ends_transaction, fronted, goes_on, held, login_of, links, link_to, contains, without, kept_on, linked, is_up, asked_on, named_in, named_on, now, pending, routing, sent_on, server_of, statements, told_from, reply_number, transaction, transaction_bytes, asking, is_over}
 
 abbrev pub is_link : ℕ → Option ℕ → Bool
 is_link link (Some other) = other == link
@@ -190,14 +194,10 @@ after_route Nowhere link next login late number = refusing late number
 after_route (Primary server) link next login late number = opening link next server login
 after_route (Replica server) link next login late number = opening link next server login
 
--- no causal wait sent the command back: they aren't built yet
-abbrev pub is_sent_back : Bool
-is_sent_back = false
-
 -- where the pending command is to go, by these words and loads
 abbrev pub found_in : Config → List Item → PoolWords → List Load → Target
 found_in config past words loads =
-    target_of (class_by_pending (pending past)) (transaction config past).state.autocommit is_sent_back words loads
+    target_of (class_by_pending (pending past)) (transaction config past).state.autocommit (routing config past).sent_back words loads
     (routing config past).tried (banned past)
 
 -- The client sent on too far behind a command that isn't answered. It is told in a packet of number 1.
@@ -251,13 +251,35 @@ after_preparing link More behind = []
 after_preparing link (Ends (Done status)) behind = unasked link behind
 after_preparing link (Ends (Failed code)) behind = Drops link (causes.Login code) ∷ []
 
+-- A wait was answered: the command goes on, or back to the primary; both are due. A probe was answered: the command goes on, or is
+-- answered that the primary is behind, or the link, whose server tells no position, is given up.
+abbrev pub after_check : ℕ → Option Causal → (behind : Bool) → (number : ℕ) → List Put
+after_check link (Some (Stale wanted found)) behind number = Tells number (Refuses (PrimaryBehind wanted found)) ∷ unasked link behind
+after_check link (Some Unreadable) behind number = Drops link causes.Probe ∷ []
+after_check link (Some causal) behind number = unasked link behind
+after_check link None behind number = []
+
 -- a payload of the reply to what was sent for this purpose, which told of this statement so far
-abbrev pub after_part : Config → ℕ → Option Purpose → (form : List ℕ) → (named : Option PrepareOk) → Progress → (behind : Bool) → (number : ℕ) → List Item → List Put
-after_part config link (Some (Asks command id)) form named progress behind number past =
+abbrev pub after_part : Config → ℕ → Option Purpose → (form : List ℕ) → (named : Option PrepareOk) → (checked : Option Causal) → Progress → (behind : Bool) → (number : ℕ) → List Item → List Put
+after_part config link (Some (Asks command id)) form named checked progress behind number past =
     after_answer link command form named progress behind number (λ outcome. recording_of config link past outcome)
-after_part config link (Some (Plays entry)) form named progress behind number past = after_played link entry named progress behind
-after_part config link (Some Prepares) form named progress behind number past = after_preparing link progress behind
-after_part config link None form named progress behind number past = []
+after_part config link (Some (Plays entry)) form named checked progress behind number past = after_played link entry named progress behind
+after_part config link (Some Prepares) form named checked progress behind number past = after_preparing link progress behind
+after_part config link (Some (Waits gtid seconds)) form named checked progress behind number past = after_check link checked behind number
+after_part config link (Some (Probes gtid)) form named checked progress behind number past = after_check link checked behind number
+after_part config link None form named checked progress behind number past = []
+
+-- The commit that a payload of a reply tells of: an OK names it. That to the preamble says nothing of a command.
+abbrev pub commit_by : (domain : ℕ) → Role → List ℕ → Option Purpose → Option Gtid
+commit_by domain OkRole payload None = None
+commit_by domain OkRole payload (Some Prepares) = None
+commit_by domain OkRole payload (Some purpose) = commit_in domain payload
+commit_by domain _ payload purpose = None
+
+-- the words are told of it before anything else is done about the payload
+abbrev pub recording_commit : (server : ℕ) → Option Gtid → List Put
+recording_commit server (Some gtid) = Records server gtid ∷ []
+recording_commit server None = []
 
 -- why a link that is lost is given up
 abbrev pub drop_cause : LinkCause → DropCause
@@ -271,8 +293,9 @@ drop_cause (losses.Login code) = causes.Login code
 -- what came of a link
 abbrev pub after_coming : Config → ℕ → LinkStep → Option Purpose → (number : ℕ) → List Item → List Put
 after_coming config link (steps.Part payload role progress next behind) purpose number past =
-    after_part config link purpose (form_of (next_handle (statements config past)) role payload) (named_in role payload (named_on link past))
-    progress behind number past
+    recording_commit (server_of link past) (commit_by config.gtid_domain role payload purpose)
+    ++ after_part config link purpose (form_of (next_handle (statements config past)) role payload) (named_in role payload (named_on link past))
+    (checked_on link (steps.Part payload role progress next behind) past) progress behind number past
 after_coming config link (steps.Lost cause) purpose number past = Drops link (drop_cause cause) ∷ []
 after_coming config link (steps.Send packets) purpose number past = LogsInto link packets ∷ []
 after_coming config link steps.LoggedIn purpose number past = []
@@ -372,7 +395,8 @@ abbrev pub play_by : (free : Bool) → ℕ → (stale : Option ℕ) → Option H
 play_by true link stale (Some entry) = Some (behind_stale link stale (Plays entry))
 play_by _ link stale _ = None
 
--- the pending command goes on its link as soon as that is prepared and free, where it wasn't sent yet
+-- the pending command, or what its link's server is asked first, goes on its link as soon as that is prepared and free, where it wasn't
+-- sent yet
 abbrev pub ask_by : (free : Bool) → ℕ → (stale : Option ℕ) → (goes : Bool) → Option Purpose → (sent : Option ℕ) → Option Item
 ask_by true link stale true (Some purpose) None = Some (behind_stale link stale purpose)
 ask_by _ link stale _ _ _ = None
@@ -382,7 +406,7 @@ due_on config link past =
     let s = statements config past in
     prepare_by (is_free false link past) link
     or (play_by (is_free true link past) link (stale_on link s) (unplayed (cursor link past) s)
-    or ask_by (is_free true link past) link (stale_on link s) (is_link link (goes_on config past)) (asking_for (pending past) link s.table.links) (sent_on past))
+    or ask_by (is_free true link past) link (stale_on link s) (is_link link (goes_on config past)) (asking_for config.causal_timeout_s (routing config past).check (pending past) link s.table.links) (sent_on past))
 
 -- in order of number
 abbrev pub due_sends : Config → List ℕ → List Item → Option Item

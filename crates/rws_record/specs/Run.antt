@@ -9,7 +9,7 @@ use Rattle.rws_board.specs.declared.interaction.Interaction.{Interaction}
 use Rattle.rws_board.specs.declared.interaction.Interaction.TheVariants.{Told}
 use Rattle.rws_pool.specs.declared.events.PoolCall.TheVariants as calls
 use Rattle.rws_pool.specs.declared.events.PoolEvent.{PoolEvent}
-use Rattle.rws_pool.specs.declared.events.PoolEvent.TheVariants.{Observe}
+use Rattle.rws_pool.specs.declared.events.PoolEvent.TheVariants.{Record, Observe}
 use Rattle.rws_pool.specs.declared.words.Round.{Round}
 use Rattle.rws_pool.specs.declared.words.Seen.{Seen}
 use Rattle.rws_pool.specs.declared.words.PoolWords.{PoolWords}
@@ -17,7 +17,8 @@ use Rattle.rws_pool.specs.Machine.{new_words, pool_from}
 use Rattle.rws_select.specs.declared.selector.Load.{Load}
 use Rattle.rws_config.specs.declared.config.Config.{Config}
 use Rattle.rws_record.specs.Item.{Item}
-use Rattle.rws_record.specs.Item.Item.{Accepted, TurnsAway, Began, ClientBytes, LinkReady, LinkBytes, ClientGone, LinkLost, Ticks, Routed, Starves}
+use Rattle.rws_record.specs.Item.Item.{Accepted, TurnsAway, Began, ClientBytes, LinkReady, LinkBytes, ClientGone, LinkLost, Ticks, Routed, Puts, Starves}
+use Rattle.rws_record.specs.Item.Put.{Records}
 use Rattle.rws_link.specs.Stepping.{LinkState, is_new}
 use Rattle.rws_record.specs.Values.{opens, links, linked, exchange, server_of, asking, is_over, is_starved, contains}
 use Rattle.rws_record.specs.Rules.{found_in, next, ◌or◌}
@@ -203,6 +204,7 @@ hearer (Observes round ∷ run) = hearer run
 -- the steps that the words took in a run, oldest first
 abbrev pub pool_events_of : List Entry → List PoolEvent
 pool_events_of [] = []
+pool_events_of (Did session (Puts (Records server gtid)) ∷ run) = pool_events_of run ++ Record server gtid ∷ []
 pool_events_of (Observes round ∷ run) = pool_events_of run ++ Observe round ∷ []
 pool_events_of (_ ∷ run) = pool_events_of run
 

@@ -7,6 +7,20 @@ use Rattle.rws_native.specs.declared.login.Login.{Login}
 use Rattle.rws_msgs.specs.declared.fault.MsgFault.{MsgFault}
 use Rattle.rws_msgs.specs.declared.prepare_ok.PrepareOk.{PrepareOk}
 use Rattle.rws_msgs.specs.PrepareOkLayout.{prepare_ok_at}
+use Rattle.rws_wire.specs.declared.mode.Mode.{Mode}
+use Rattle.rws_gtid.specs.declared.Gtid.{Gtid}
+use Rattle.rws_gtid.specs.Spelling.{wait_statement}
+use Rattle.rws_pool.specs.declared.words.PoolWords.{PoolWords}
+use Rattle.rws_pool.specs.Machine.{later, seen_at}
+use Rattle.rws_result.specs.declared.one_value.OneValue.{OneValue}
+use Rattle.rws_result.specs.declared.one_value.OneValue.TheVariants.{Begins}
+use Rattle.rws_result.specs.OneValues.{heard, value_of}
+use Rattle.rws_causal.specs.declared.causal.Causal.{Causal}
+use Rattle.rws_causal.specs.declared.causal.Causal.TheVariants.{Go, TryPrimary, Wait as WaitsFirst, Probe as ProbesFirst}
+use Rattle.rws_causal.specs.Rules.{after_probe, after_wait, before_read, wanted}
+use Rattle.rws_route.specs.declared.destination.Target.{Target}
+use Rattle.rws_route.specs.declared.destination.Target.TheVariants.{Primary, Replica, NoPrimary as Nowhere}
+use Rattle.rws_route.specs.Targets.{only_reads}
 use Rattle.rws_class.specs.declared.class.Class.{Class}
 use Rattle.rws_class.specs.declared.class.Class.TheVariants.{Other}
 use Rattle.rws_trx.specs.declared.transaction.Answer.{Answer}
@@ -16,8 +30,10 @@ use Rattle.rws_trx.specs.declared.state.Course.TheVariants.{GoesOn, Begins, IsNo
 use Rattle.rws_trx.specs.declared.state.TrxState.{TrxState}
 use Rattle.rws_trx.specs.Transactions.{begins_read_only, is_open}
 use Rattle.rws_trx.specs.OnLinks.{added, answered, course_of, no_transaction, status_of}
+use Rattle.rws_routing.specs.declared.routing.Check.{Check}
+use Rattle.rws_routing.specs.declared.routing.Check.TheVariants.{Wait, Probe}
 use Rattle.rws_routing.specs.declared.routing.Routing.{Routing}
-use Rattle.rws_routing.specs.Routings.{goes_to_primary, is_at, lost, new_routing, routed, server_in, stopped, ticked, with_server}
+use Rattle.rws_routing.specs.Routings.{cleared, goes_to_primary, is_at, lost, new_routing, routed, server_in, stopped, ticked, turned_back, with_server}
 use Rattle.rws_reply.specs.declared.kind.Kind.{Kind}
 use Rattle.rws_reply.specs.declared.kind.Kind.TheVariants.{Query as QueryReply}
 use Rattle.rws_reply.specs.declared.kind.Outcome.{Outcome}
@@ -38,15 +54,15 @@ use Rattle.rws_config.specs.declared.account.Account.{Account}
 use Rattle.rws_config.specs.declared.config.Config.{Config}
 use Rattle.rws_commands.specs.declared.command.Command.{Command}
 use Rattle.rws_commands.specs.declared.judged.Judged.TheVariants.{Serves}
-use Rattle.rws_commands.specs.declared.proxy_error.ProxyError.TheVariants.{NoPrimary}
+use Rattle.rws_commands.specs.declared.proxy_error.ProxyError.TheVariants.{NoPrimary, PrimaryBehind}
 use Rattle.rws_commands.specs.Commands.{asked_under, bytes_of, class_of_command, id_for, keeps}
 use Rattle.rws_commands.specs.Statements as steps_of
 use Rattle.rws_commands.specs.Statements.{Statements, failed_if, forgotten, is_otherwise, is_prepared, no_statements, played, swept_if, taken_as, unlinked}
 use Rattle.rws_record.specs.Item.{Ending, Item, Purpose, Put, Recording}
 use Rattle.rws_record.specs.Item.Item.{Accepted, Began, ClientBytes, LinkReady, LinkBytes, ClientGone, LinkLost, Ticks, Routed, Comes, Connects, Takes, Puts, Starves}
-use Rattle.rws_record.specs.Item.Put.{Tells, Routes, Opens, Sends, Forgets, Drops, Closes}
+use Rattle.rws_record.specs.Item.Put.{Tells, Records, Routes, Opens, Sends, Forgets, Drops, Closes}
 use Rattle.rws_record.specs.Item.Tell.{Passes, Refuses}
-use Rattle.rws_record.specs.Item.Purpose.{Prepares, Asks, Plays}
+use Rattle.rws_record.specs.Item.Purpose.{Prepares, Asks, Plays, Waits, Probes}
 use Rattle.rws_record.specs.Item.Recording.{Accepts, Keeps}
 
 -- The client's side
@@ -155,17 +171,28 @@ abbrev pub preamble : List ℕ
 preamble =
     COM_QUERY ∷ codes "SET SESSION session_track_system_variables = CONCAT(@@session_track_system_variables, ',last_gtid')"
 
+-- The statements of the proxy's own that go before a read ("MASTER_GTID_WAIT" and "gtid_current_pos", in MariaDB's documentation)
+abbrev pub wait_command : Gtid → (seconds : ℕ) → List ℕ
+wait_command gtid seconds = COM_QUERY ∷ wait_statement gtid seconds
+
+abbrev pub probe_command : List ℕ
+probe_command = COM_QUERY ∷ codes "SELECT @@gtid_current_pos"
+
 -- the payloads that go on the link for a purpose
 abbrev pub sent_for : Purpose → List (List ℕ)
 sent_for Prepares = preamble ∷ []
 sent_for (Asks command id) = asked_under id command.body
 sent_for (Plays entry) = entry.payload ∷ []
+sent_for (Waits gtid seconds) = wait_command gtid seconds ∷ []
+sent_for (Probes gtid) = probe_command ∷ []
 
 -- the kind of reply that answers it
 abbrev pub kind_of : Purpose → Kind
 kind_of Prepares = QueryReply
 kind_of (Asks command id) = command.kind
 kind_of (Plays entry) = entry.kind
+kind_of (Waits gtid seconds) = QueryReply
+kind_of (Probes gtid) = QueryReply
 
 -- A link that was sent payloads, the last of which is answered. Each is a command of its own.
 abbrev pub sent_all : List (List ℕ) → Kind → LinkState
@@ -218,6 +245,28 @@ named_on link (Puts (Sends to purpose) ∷ past) = if to == link then None else 
 named_on link (Comes from said ∷ past) = if from == link then named_by said (named_on link past) else named_on link past
 named_on link (_ ∷ past) = named_on link past
 
+abbrev pub valued_by : LinkStep → Option Purpose → OneValue → OneValue
+valued_by (steps.Part payload role progress next behind) (Some (Waits gtid seconds)) before = heard before payload
+valued_by (steps.Part payload role progress next behind) (Some (Probes gtid)) before = heard before payload
+valued_by _ _ before = before
+
+-- how far a result set of one value was read on the link, that answers a wait or a probe
+abbrev pub value_on : ℕ → List Item → OneValue
+value_on link [] = Begins
+value_on link (Puts (Opens opened server login) ∷ past) = if opened == link then Begins else value_on link past
+value_on link (Puts (Sends to purpose) ∷ past) = if to == link then Begins else value_on link past
+value_on link (Comes from said ∷ past) = if from == link then valued_by said (asked_on link past) (value_on link past) else value_on link past
+value_on link (_ ∷ past) = value_on link past
+
+-- what a wait or a probe was answered, where that is whole now, and its value is this
+abbrev pub checked_by : LinkStep → Option Purpose → OneValue → Option Causal
+checked_by (steps.Part payload role (Ends outcome) next behind) (Some (Waits gtid seconds)) value = Some (after_wait (value_of value))
+checked_by (steps.Part payload role (Ends outcome) next behind) (Some (Probes gtid)) value = Some (after_probe gtid (value_of value))
+checked_by _ _ value = None
+
+abbrev pub checked_on : ℕ → LinkStep → List Item → Option Causal
+checked_on link said past = checked_by said (asked_on link past) (valued_by said (asked_on link past) (value_on link past))
+
 -- commands of the client may go on the link: it was prepared, or counts as it
 abbrev pub is_up : ℕ → List Item → Bool
 is_up link [] = false
@@ -256,6 +305,7 @@ pending [] = None
 pending (Takes (Serves command) number ∷ past) = Some command
 pending (Puts (Tells number (Passes link command payload (Some ending) recording)) ∷ past) = None
 pending (Puts (Tells number (Refuses NoPrimary)) ∷ past) = None
+pending (Puts (Tells number (Refuses (PrimaryBehind wanted found))) ∷ past) = None
 pending (_ ∷ past) = pending past
 
 abbrev pub unless_link : ℕ → Option ℕ → Option ℕ
@@ -357,17 +407,58 @@ now (Began link server reading ∷ past) = reading
 now (Ticks reading ∷ past) = reading
 now (_ ∷ past) = now past
 
--- How far the pending command has come: what its last route found, the link that it is to go on, the servers that were tried,
--- and whether it waits for a primary.
+-- What its server is asked first
+
+-- the last commit that the session itself saw
+abbrev pub later_of : Gtid → Option Gtid → Gtid
+later_of gtid (Some before) = later before gtid
+later_of gtid None = gtid
+
+abbrev pub own : List Item → Option Gtid
+own [] = None
+own (Puts (Records server gtid) ∷ past) = Some (later_of gtid (own past))
+own (_ ∷ past) = own past
+
+abbrev pub check_in : Causal → Option Check
+check_in (WaitsFirst gtid) = Some (Wait gtid)
+check_in (ProbesFirst gtid) = Some (Probe gtid)
+check_in _ = None
+
+-- A command that only reads is to see a commit, by the settings: the server that was found is asked first, unless it is known to have it.
+abbrev pub check_by : (reads : Bool) → Option Gtid → (position : ℕ) → (on_primary : Bool) → Option Check
+check_by true wanted position on_primary = check_in (before_read wanted position on_primary)
+check_by false wanted position on_primary = None
+
+-- at a server of which the words say this
+abbrev pub check_at : Mode → Class → (own : Option Gtid) → (server : ℕ) → (on_primary : Bool) → PoolWords → Option Check
+check_at mode class own server on_primary words =
+    check_by (only_reads class) (wanted mode words own) (seen_at words server).position on_primary
+
+abbrev pub check_for : Mode → Class → (own : Option Gtid) → Target → PoolWords → Option Check
+check_for mode class own (Primary server) words = check_at mode class own server true words
+check_for mode class own (Replica server) words = check_at mode class own server false words
+check_for mode class own Nowhere words = None
+
+-- by what it answers the command goes on, or back to the primary
+abbrev pub heard_check : Option Causal → Routing → Routing
+heard_check (Some Go) r = cleared r
+heard_check (Some TryPrimary) r = turned_back r
+heard_check _ r = r
+
+-- How far the pending command has come: what its last route found, the link that it is to go on, what that link's server is asked
+-- first, the servers that were tried, and whether it waits for a primary.
 abbrev pub routing : Config → List Item → Routing
 routing config [] = new_routing
 routing config (Takes judged number ∷ past) = new_routing
 routing config (Routed words loads next found ∷ past) =
-    routed found (link_to (server_in found) past) next (now past) (routing config past)
+    routed found (check_for config.causal_reads (class_by_pending (pending past)) (own past) found words) (link_to (server_in found) past) next (now past)
+    (routing config past)
 routing config (Ticks reading ∷ past) = ticked config.primary_wait_ms reading (routing config past)
+routing config (Comes link said ∷ past) = heard_check (checked_on link said past) (routing config past)
 routing config (LinkLost link ∷ past) = lost link (routing config past)
 routing config (Puts (Drops link cause) ∷ past) = lost link (routing config past)
 routing config (Puts (Tells number (Refuses NoPrimary)) ∷ past) = stopped (routing config past)
+routing config (Puts (Tells number (Refuses (PrimaryBehind wanted found))) ∷ past) = stopped (routing config past)
 routing config (_ ∷ past) = routing config past
 
 -- Its transaction
@@ -483,15 +574,22 @@ statements config (Comes link said ∷ past) =
 statements config (Puts (Tells number (Passes link command payload (Some ending) recording)) ∷ past) =
     answered_in link (pending past) ending (serial_for recording (serials past)) (statements config past)
 statements config (Puts (Tells number (Refuses NoPrimary)) ∷ past) = failed_if (prepares (pending past)) (statements config past)
+statements config (Puts (Tells number (Refuses (PrimaryBehind wanted found))) ∷ past) = failed_if (prepares (pending past)) (statements config past)
 statements config (Puts (Forgets link id) ∷ past) = forgotten link (statements config past)
 statements config (LinkLost link ∷ past) = unlinked link (statements config past)
 statements config (Puts (Drops link cause) ∷ past) = unlinked link (statements config past)
 statements config (_ ∷ past) = statements config past
 
--- what the pending command goes on a link for
-abbrev pub asking_for : Option Command → ℕ → List Ids → Option Purpose
-asking_for (Some command) link ids = Some (Asks command (id_for link command.body ids))
-asking_for None link ids = None
+-- What goes on a link for the pending command: first what checks that its server has what the command is to see, where that isn't known,
+-- and then the command.
+abbrev pub asking_by_check : (seconds : ℕ) → Option Check → Command → (id : Option ℕ) → Purpose
+asking_by_check seconds (Some (Wait gtid)) command id = Waits gtid seconds
+asking_by_check seconds (Some (Probe gtid)) command id = Probes gtid
+asking_by_check seconds None command id = Asks command id
+
+abbrev pub asking_for : (seconds : ℕ) → Option Check → Option Command → ℕ → List Ids → Option Purpose
+asking_for seconds check (Some command) link ids = Some (asking_by_check seconds check command (id_for link command.body ids))
+asking_for seconds check None link ids = None
 
 -- What the session waits for
 
