@@ -4,7 +4,7 @@ use Rattle.std.specs.Prelude.{◌==◌, if◌then◌else◌}
 use Rattle.rws_config.specs.declared.config.Config.{Config}
 use Rattle.rws_record.specs.Item.{Item}
 use Rattle.rws_record.specs.Item.Item.{Accepted, TurnsAway, Began, ClientBytes, LinkReady, LinkBytes, ClientGone, LinkLost, Ticks, Routed, Comes, Connects, Takes, Floods, Puts, Starves}
-use Rattle.rws_record.specs.Item.Put.{Hands, Tells, Routes, Opens, LogsInto, Sends, Forgets, Drops, Closes}
+use Rattle.rws_record.specs.Item.Put.{Hands, Tells, Records, Routes, Opens, LogsInto, Sends, Forgets, Drops, Closes}
 use Rattle.rws_record.specs.Values.{links, contains, without}
 use Rattle.rws_record.specs.Record.{IsRecord}
 use Rattle.rws_record.specs.Record.IsRecord.{begins, steps, answers, hears, starves}
@@ -69,6 +69,7 @@ leaves past (Floods bytes) = all refl
 leaves past (Starves made number) = all refl
 leaves past (Puts (Hands packets)) = all refl
 leaves past (Puts (Tells number tell)) = all refl
+leaves past (Puts (Records server gtid)) = all refl
 leaves past (Puts Routes) = all refl
 leaves past (Puts (Opens link server login)) = and_one link refl
 leaves past (Puts (LogsInto link packets)) = all refl

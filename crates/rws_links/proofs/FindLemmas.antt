@@ -5,6 +5,7 @@ use Rattle.std.proofs.lemmas.List.Sums.{length-filter}
 use Rattle.std.specs.Prelude.{◌==◌, ◌&&◌, count_by, is_some, is_none, if◌then◌else◌}
 use Rattle.rws_link.specs.Stepping.{LinkState, LogsIn, Rests, Awaits, IsLost}
 use Rattle.rws_link.specs.Linking.{is_awaiting, kept}
+use Rattle.rws_routing.specs.declared.routing.Check.{Check}
 use Rattle.rws_routing.specs.Routings.{is_at}
 use Rattle.rws_config.specs.declared.config.Config.{Config}
 use Rattle.rws_commands.specs.declared.command.Command.{Command}
@@ -14,7 +15,7 @@ use Rattle.rws_record.specs.Item.{Item, Purpose}
 use Rattle.rws_record.specs.Item.Item.{Puts}
 use Rattle.rws_record.specs.Item.Put.{Sends}
 use Rattle.rws_record.specs.Item.Purpose.{Prepares, Plays}
-use Rattle.rws_record.specs.Values.{asking_for, awaited, contains, cursor as played_on, goes_on, is_up, linked, links, pending, sent_on, server_of, statements}
+use Rattle.rws_record.specs.Values.{asking_for, awaited, contains, cursor as played_on, goes_on, is_up, linked, links, pending, routing, sent_on, server_of, statements}
 use Rattle.rws_record.specs.Values.{first_to as first_link_to}
 use Rattle.rws_record.specs.Rules.{◌or◌, ask_by, behind_stale, due_sends, is_link, is_ready, is_same, play_by, prepare_by}
 use Rattle.rws_record.specs.Run.{is_owed_on}
@@ -91,15 +92,15 @@ abbrev pub asks : ℕ → (stale : Option ℕ) → Option Purpose → Option Ite
 asks link stale (Some purpose) = Some (behind_stale link stale purpose)
 asks link stale None = None
 
--- the item of what is due, where the statements and the history are these and this command waits
-abbrev pub item_of : Statements → Option Command → (link entry : ℕ) → DueKind → Option Item
-item_of s command link entry Preamble = Some (Puts (Sends link Prepares))
-item_of s command link entry AnEntry = playing link (stale_on link s) (unplayed entry s)
-item_of s command link entry ACommand = asks link (stale_on link s) (asking_for command link s.table.links)
+-- the item of what is due, where the statements and the history are these and this command waits, whose server is asked `check` first
+abbrev pub item_of : (seconds : ℕ) → Option Check → Statements → Option Command → (link entry : ℕ) → DueKind → Option Item
+item_of seconds check s command link entry Preamble = Some (Puts (Sends link Prepares))
+item_of seconds check s command link entry AnEntry = playing link (stale_on link s) (unplayed entry s)
+item_of seconds check s command link entry ACommand = asks link (stale_on link s) (asking_for seconds check command link s.table.links)
 
-abbrev pub due_item : Statements → Option Command → Option Due → Option Item
-due_item s command (Some due) = item_of s command due.link due.entry due.what
-due_item s command None = None
+abbrev pub due_item : (seconds : ℕ) → Option Check → Statements → Option Command → Option Due → Option Item
+due_item seconds check s command (Some due) = item_of seconds check s command due.link due.entry due.what
+due_item seconds check s command None = None
 
 -- the link that a command waits for
 abbrev pub waits_for : Option Command → (sent goes : Option ℕ) → Option ℕ
@@ -112,51 +113,51 @@ due_so ready up link stale entry goes purpose sent =
     or ask_by (is_same true up && ready) link stale (is_link link goes) purpose sent)
 
 -- a command is due on a link that has played all
-ask_is : (s : Statements) (cursor link : ℕ) (goes : Option ℕ) (command : Option Command) (sent : Option ℕ) (item : Option Item)
-    (due : Option Due) → item ≡ due_item s command due
-    → ask_by true link (stale_on link s) (is_link link goes) (asking_for command link s.table.links) sent or item
-    ≡ due_item s command (or_behind (due_by true true false (is_at link (waits_for command sent goes))) link cursor due)
-ask_is s cursor link goes None sent item due e = by_goes goes
+ask_is : (seconds : ℕ) (check : Option Check) (s : Statements) (cursor link : ℕ) (goes : Option ℕ) (command : Option Command) (sent : Option ℕ)
+    (item : Option Item) (due : Option Due) → item ≡ due_item seconds check s command due
+    → ask_by true link (stale_on link s) (is_link link goes) (asking_for seconds check command link s.table.links) sent or item
+    ≡ due_item seconds check s command (or_behind (due_by true true false (is_at link (waits_for command sent goes))) link cursor due)
+ask_is seconds check s cursor link goes None sent item due e = by_goes goes
   where
-    by_goes : (goes : Option ℕ) → ask_by true link (stale_on link s) (is_link link goes) None sent or item ≡ due_item s None due
+    by_goes : (goes : Option ℕ) → ask_by true link (stale_on link s) (is_link link goes) None sent or item ≡ due_item seconds check s None due
     by_goes None = e
     by_goes (Some other) = by_test (other == link)
       where
-        by_test : (test : Bool) → ask_by true link (stale_on link s) test None sent or item ≡ due_item s None due
+        by_test : (test : Bool) → ask_by true link (stale_on link s) test None sent or item ≡ due_item seconds check s None due
         by_test true = e
         by_test false = e
-ask_is s cursor link None (Some command) None item due e = e
-ask_is s cursor link (Some other) (Some command) None item due e = by_test (other == link)
+ask_is seconds check s cursor link None (Some command) None item due e = e
+ask_is seconds check s cursor link (Some other) (Some command) None item due e = by_test (other == link)
   where
     by_test : (test : Bool)
-        → ask_by true link (stale_on link s) test (asking_for (Some command) link s.table.links) None or item
-        ≡ due_item s (Some command) (or_behind (due_by true true false test) link cursor due)
+        → ask_by true link (stale_on link s) test (asking_for seconds check (Some command) link s.table.links) None or item
+        ≡ due_item seconds check s (Some command) (or_behind (due_by true true false test) link cursor due)
     by_test true = refl
     by_test false = e
-ask_is s cursor link None (Some command) (Some on) item due e = e
-ask_is s cursor link (Some other) (Some command) (Some on) item due e = by_test (other == link)
+ask_is seconds check s cursor link None (Some command) (Some on) item due e = e
+ask_is seconds check s cursor link (Some other) (Some command) (Some on) item due e = by_test (other == link)
   where
     by_test : (test : Bool)
-        → ask_by true link (stale_on link s) test (asking_for (Some command) link s.table.links) (Some on) or item
-        ≡ due_item s (Some command) due
+        → ask_by true link (stale_on link s) test (asking_for seconds check (Some command) link s.table.links) (Some on) or item
+        ≡ due_item seconds check s (Some command) due
     by_test true = e
     by_test false = e
 
-step_is : (s : Statements) (last : Option ℕ) (cursor : ℕ) → is_some (unplayed cursor s) ≡ is_behind last cursor → (ready up : Bool) (link : ℕ)
-    (goes : Option ℕ) (command : Option Command) (sent : Option ℕ) (item : Option Item) (due : Option Due) → item ≡ due_item s command due
-    → due_so ready up link (stale_on link s) (unplayed cursor s) goes (asking_for command link s.table.links) sent or item
-    ≡ due_item s command (or_behind (due_by ready up (is_behind last cursor) (is_at link (waits_for command sent goes))) link cursor due)
-step_is s last cursor plays false true link goes command sent item due e = e
-step_is s last cursor plays false false link goes command sent item due e = e
-step_is s last cursor plays true false link goes command sent item due e = refl
-step_is s last cursor plays true true link goes command sent item due e = by_entry (unplayed cursor s) refl
+step_is : (seconds : ℕ) (check : Option Check) (s : Statements) (last : Option ℕ) (cursor : ℕ)
+    → is_some (unplayed cursor s) ≡ is_behind last cursor → (ready up : Bool) (link : ℕ) (goes : Option ℕ) (command : Option Command) (sent : Option ℕ) (item : Option Item) (due : Option Due) → item ≡ due_item seconds check s command due
+    → due_so ready up link (stale_on link s) (unplayed cursor s) goes (asking_for seconds check command link s.table.links) sent or item
+    ≡ due_item seconds check s command (or_behind (due_by ready up (is_behind last cursor) (is_at link (waits_for command sent goes))) link cursor due)
+step_is seconds check s last cursor plays false true link goes command sent item due e = e
+step_is seconds check s last cursor plays false false link goes command sent item due e = e
+step_is seconds check s last cursor plays true false link goes command sent item due e = refl
+step_is seconds check s last cursor plays true true link goes command sent item due e = by_entry (unplayed cursor s) refl
   where
     by_entry : (entry : Option HistoryEntry) → unplayed cursor s ≡ entry
-        → due_so true true link (stale_on link s) entry goes (asking_for command link s.table.links) sent or item
-        ≡ due_item s command (or_behind (due_by true true (is_behind last cursor) (is_at link (waits_for command sent goes))) link cursor due)
+        → due_so true true link (stale_on link s) entry goes (asking_for seconds check command link s.table.links) sent or item
+        ≡ due_item seconds check s command (or_behind (due_by true true (is_behind last cursor) (is_at link (waits_for command sent goes))) link cursor due)
     by_entry None none =
         let behind : is_behind last cursor ≡ false = sym plays ∙ ap is_some none in
-        rw behind (ask_is s cursor link goes command sent item due e)
+        rw behind (ask_is seconds check s cursor link goes command sent item due e)
     by_entry (Some entry) is =
         let behind : is_behind last cursor ≡ true = sym plays ∙ ap is_some is in
         rw behind (sym (ap (playing link (stale_on link s)) is))
@@ -173,14 +174,14 @@ pub due_is : (config : Config) (past : List Item) (numbers : List ℕ)
     ≡ is_behind (last_serial (statements config past).history) (played_on link past))
     → ((link : ℕ) → contains link numbers ≡ true → contains link (links past) ≡ true)
     → due_sends config numbers past
-    ≡ due_item (statements config past) (pending past)
+    ≡ due_item config.causal_timeout_s (routing config past).check (statements config past) (pending past)
     (first_due (waits_for (pending past) (sent_on past) (goes_on config past)) (last_serial (statements config past).history)
     (map (link_of past) numbers))
 due_is config past [] plays has = refl
 due_is config past (link ∷ others) plays has =
     rw (has link (rw (itself link) refl), open_is (linked link past))
-    (step_is (statements config past) (last_serial (statements config past).history) (played_on link past) (plays link) (is_ready (linked link past))
-    (is_up link past) link (goes_on config past) (pending past) (sent_on past) _ _
+    (step_is config.causal_timeout_s (routing config past).check (statements config past) (last_serial (statements config past).history)
+    (played_on link past) (plays link) (is_ready (linked link past)) (is_up link past) link (goes_on config past) (pending past) (sent_on past) _ _
     (due_is config past others plays (λ other in_others. has other (behind other in_others))))
   where
     behind : (other : ℕ) → contains other others ≡ true → contains other (link ∷ others) ≡ true

@@ -8,6 +8,7 @@ use Rattle.std.proofs.lemmas.Iterator.Adapters.{position_from-zero}
 use Rattle.std.proofs.lemmas.Result.{IfOk-weaker}
 use Rattle.std.proofs.Math.Seq.{map-set_same}
 use Rattle.rws_reply.specs.declared.kind.Kind.{Kind}
+use Rattle.rws_result.specs.declared.one_value.OneValue.TheVariants.{Begins}
 use Rattle.rws_link.specs.Stepping.{LinkState, LogsIn, Rests, Awaits, IsLost, fed, is_new, readied}
 use Rattle.rws_link.specs.Linking.{IsReady, Linking, kept}
 use Rattle.rws_record.specs.Item.{Item, Purpose}
@@ -191,9 +192,9 @@ sent_as past number links items at purpose link new there true goes =
     tests past link number asked true there.is (λ e. goes.0, λ may. refl) in
     let rests : linked number past ≡ Rests = rests_by (is_same (needs_prepared asked) (is_up number past)) (linked number past) ready in
     let state : LinkState = sent_all (sent_for purpose) (kind_of purpose) in
-    let whole : new ≡ record (link_of past number) { asked = Some asked; named = None; link = kept state } =
-    goes.1 ∙ ap (λ (l : NumberedLink). record l { asked = Some asked; named = None; link = new.link }) there.is
-    ∙ ap (λ (k : Linking). record (link_of past number) { asked = Some asked; named = None; link = k })
+    let whole : new ≡ record (link_of past number) { asked = Some asked; named = None; value = Begins; link = kept state } =
+    goes.1 ∙ ap (λ (l : NumberedLink). record l { asked = Some asked; named = None; value = Begins; link = new.link }) there.is
+    ∙ ap (λ (k : Linking). record (link_of past number) { asked = Some asked; named = None; value = Begins; link = k })
     (goes.2 (ap (λ (l : NumberedLink). l.link) there.is ∙ ap kept rests)) in (
       rw there.has (sym ready),
       there.changes (Puts (Sends number purpose)) (sending_about past number purpose) new (rw (itself number) whole),

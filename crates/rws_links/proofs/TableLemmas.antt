@@ -7,7 +7,9 @@ use Rattle.std.specs.Option.{option_map}
 use Rattle.rws_native.specs.declared.login.Login.{Login}
 use Rattle.rws_reply.specs.declared.kind.Outcome.TheVariants.{Done, Failed}
 use Rattle.rws_reply.specs.declared.kind.Progress.TheVariants.{More, Whole as Ends}
+use Rattle.rws_result.specs.declared.one_value.OneValue.{OneValue}
 use Rattle.rws_link.specs.declared.step.LinkStep.{LinkStep}
+use Rattle.rws_causal.specs.declared.causal.Causal.{Causal}
 use Rattle.rws_link.specs.declared.step.LinkStep.TheVariants as steps
 use Rattle.rws_link.specs.Stepping.{LinkState, LogsIn, Rests, Awaits, IsLost, step}
 use Rattle.rws_link.specs.Linking.{Linking, Takes, is_awaiting, kept}
@@ -18,16 +20,16 @@ use Rattle.rws_routing.specs.Routings.{with_server}
 use Rattle.rws_record.specs.Item.{Ending, Item, Purpose}
 use Rattle.rws_record.specs.Item.Item.{LinkBytes, LinkReady, Comes, Puts}
 use Rattle.rws_record.specs.Item.Put.{Opens, Sends, Tells}
-use Rattle.rws_record.specs.Item.Purpose.{Prepares, Asks, Plays}
+use Rattle.rws_record.specs.Item.Purpose.{Prepares, Asks, Plays, Waits, Probes}
 use Rattle.rws_record.specs.Item.Recording.{Accepts}
 use Rattle.rws_record.specs.Item.Tell.{Passes}
-use Rattle.rws_record.specs.Values.{asked_on, awaited, banned_by, banned_if, contains, cursor as played_on, exchange, is_up, linked, named_by, named_in, named_on, played_by, prepared_by, serials, server_of, without}
+use Rattle.rws_record.specs.Values.{asked_on, awaited, banned_by, banned_if, checked_by, checked_on, contains, cursor as played_on, exchange, is_up, linked, named_by, named_in, named_on, played_by, prepared_by, serials, server_of, value_on, valued_by, without}
 use Rattle.rws_record.specs.Rules.{coming}
 use Rattle.rws_record.proofs.LinkedLemmas.{idle_stays}
 use Rattle.rws_links.specs.declared.coming.Coming.{Coming}
 use Rattle.rws_links.specs.declared.numbered.NumberedLink.{NumberedLink}
 use Rattle.rws_links.specs.Links.{asked_for, link_of, new_link}
-use Rattle.rws_links.specs.Table.{AreDistinct, ReadsFirst, bans, led, plays, prepares, without_number}
+use Rattle.rws_links.specs.Table.{AreDistinct, ReadsFirst, bans, checks, led, plays, prepares, values, without_number}
 use Rattle.rws_links.proofs.NumberLemmas.{apart}
 
 pub both : {A : Type 0} {x y : A} {xs ys : List A} → x ≡ y → xs ≡ ys → x ∷ xs ≡ y ∷ ys
@@ -147,6 +149,8 @@ prepares_is (steps.Part payload role More next behind) asked before = refl
 prepares_is (steps.Part payload role (Ends (Done status)) next behind) None before = refl
 prepares_is (steps.Part payload role (Ends (Done status)) next behind) (Some Prepares) before = refl
 prepares_is (steps.Part payload role (Ends (Done status)) next behind) (Some (Asks command id)) before = refl
+prepares_is (steps.Part payload role (Ends (Done status)) next behind) (Some (Waits gtid seconds)) before = refl
+prepares_is (steps.Part payload role (Ends (Done status)) next behind) (Some (Probes gtid)) before = refl
 prepares_is (steps.Part payload role (Ends (Done status)) next behind) (Some (Plays entry)) before = refl
 prepares_is (steps.Part payload role (Ends (Failed code)) next behind) asked before = refl
 prepares_is (steps.Lost cause) asked before = refl
@@ -160,6 +164,8 @@ plays_is (steps.Part payload role More next behind) asked before = refl
 plays_is (steps.Part payload role (Ends (Done status)) next behind) None before = refl
 plays_is (steps.Part payload role (Ends (Done status)) next behind) (Some Prepares) before = refl
 plays_is (steps.Part payload role (Ends (Done status)) next behind) (Some (Asks command id)) before = refl
+plays_is (steps.Part payload role (Ends (Done status)) next behind) (Some (Waits gtid seconds)) before = refl
+plays_is (steps.Part payload role (Ends (Done status)) next behind) (Some (Probes gtid)) before = refl
 plays_is (steps.Part payload role (Ends (Done status)) next behind) (Some (Plays entry)) before = refl
 plays_is (steps.Part payload role (Ends (Failed code)) next behind) asked before = refl
 plays_is (steps.Lost cause) asked before = refl
@@ -174,6 +180,8 @@ bans_is (steps.Part payload role More next behind) asked named server before = r
 bans_is (steps.Part payload role (Ends (Done status)) next behind) None named server before = refl
 bans_is (steps.Part payload role (Ends (Done status)) next behind) (Some Prepares) named server before = refl
 bans_is (steps.Part payload role (Ends (Done status)) next behind) (Some (Asks command id)) named server before = refl
+bans_is (steps.Part payload role (Ends (Done status)) next behind) (Some (Waits gtid seconds)) named server before = refl
+bans_is (steps.Part payload role (Ends (Done status)) next behind) (Some (Probes gtid)) named server before = refl
 bans_is (steps.Part payload role (Ends (Done status)) next behind) (Some (Plays entry)) named server before =
     by_test (is_otherwise entry.statement (named_in role payload named))
   where
@@ -183,8 +191,37 @@ bans_is (steps.Part payload role (Ends (Done status)) next behind) (Some (Plays 
 bans_is (steps.Part payload role (Ends (Failed code)) next behind) None named server before = refl
 bans_is (steps.Part payload role (Ends (Failed code)) next behind) (Some Prepares) named server before = refl
 bans_is (steps.Part payload role (Ends (Failed code)) next behind) (Some (Asks command id)) named server before = refl
+bans_is (steps.Part payload role (Ends (Failed code)) next behind) (Some (Waits gtid seconds)) named server before = refl
+bans_is (steps.Part payload role (Ends (Failed code)) next behind) (Some (Probes gtid)) named server before = refl
 bans_is (steps.Part payload role (Ends (Failed code)) next behind) (Some (Plays entry)) named server before = refl
 bans_is (steps.Lost cause) asked named server before = refl
+
+-- a value is read as the record says
+values_is : (said : LinkStep) (asked : Option Purpose) (before : OneValue) → values said (option_map asked_for asked) before ≡ valued_by said asked before
+values_is steps.Idle asked before = refl
+values_is (steps.Send bytes) asked before = refl
+values_is steps.LoggedIn asked before = refl
+values_is (steps.Part payload role progress next behind) None before = refl
+values_is (steps.Part payload role progress next behind) (Some Prepares) before = refl
+values_is (steps.Part payload role progress next behind) (Some (Asks command id)) before = refl
+values_is (steps.Part payload role progress next behind) (Some (Plays entry)) before = refl
+values_is (steps.Part payload role progress next behind) (Some (Waits gtid seconds)) before = refl
+values_is (steps.Part payload role progress next behind) (Some (Probes gtid)) before = refl
+values_is (steps.Lost cause) asked before = refl
+
+-- and so is what it lets through
+checks_is : (said : LinkStep) (asked : Option Purpose) (value : OneValue) → checks said (option_map asked_for asked) value ≡ checked_by said asked value
+checks_is steps.Idle asked value = refl
+checks_is (steps.Send bytes) asked value = refl
+checks_is steps.LoggedIn asked value = refl
+checks_is (steps.Part payload role More next behind) asked value = refl
+checks_is (steps.Part payload role (Ends outcome) next behind) None value = refl
+checks_is (steps.Part payload role (Ends outcome) next behind) (Some Prepares) value = refl
+checks_is (steps.Part payload role (Ends outcome) next behind) (Some (Asks command id)) value = refl
+checks_is (steps.Part payload role (Ends outcome) next behind) (Some (Plays entry)) value = refl
+checks_is (steps.Part payload role (Ends outcome) next behind) (Some (Waits gtid seconds)) value = refl
+checks_is (steps.Part payload role (Ends outcome) next behind) (Some (Probes gtid)) value = refl
+checks_is (steps.Lost cause) asked value = refl
 
 -- a link led an entry
 pub led_is : (past : List Item) (number from : ℕ) (command : Command) (payload : List ℕ) (ending : Ending) (links : List ℕ)
@@ -199,19 +236,27 @@ led_is past number from command payload ending (link ∷ others) =
     by_test true t = let same : (from == link) ≡ true = eq-eqb from link (sym (eqb-true link from t)) in rw (t, same) refl
     by_test false t = rw (t, apart link from t) refl
 
-whole_by : (l : NumberedLink) {up up' : Bool} {named : Option PrepareOk} {cursor cursor' : ℕ} {link link' : Linking} → up ≡ up'
-    → cursor ≡ cursor' → link ≡ link'
-    → record l { is_up = up; named = named; cursor = cursor; link = link }
-    ≡ record l { is_up = up'; named = named; cursor = cursor'; link = link' }
-whole_by l u c k = cc
+whole_by : (l : NumberedLink) {up up' : Bool} {named : Option PrepareOk} {value value' : OneValue} {cursor cursor' : ℕ} {link link' : Linking}
+    → up ≡ up' → value ≡ value' → cursor ≡ cursor' → link ≡ link'
+    → record l { is_up = up; named = named; value = value; cursor = cursor; link = link }
+    ≡ record l { is_up = up'; named = named; value = value'; cursor = cursor'; link = link' }
+whole_by l u v c k = cc
 
 -- the first link says something
 pub read_here : (past : List Item) (numbers : List ℕ) (link new : NumberedLink) (others : List NumberedLink) (said : LinkStep) (found : Coming)
     (after : Linking) → link ∷ others ≡ map (link_of past) numbers → AreDistinct numbers → (said ≡ steps.Idle → ⊥)
-    → found ≡ record { link = link.number; server = link.server; said = said; asked = link.asked; named = named_by said link.named }
+    → found ≡ record {
+      link = link.number;
+      server = link.server;
+      said = said;
+      asked = link.asked;
+      named = named_by said link.named;
+      checked = checks said link.asked (values said link.asked link.value);
+    }
     → new ≡ record link {
       is_up = prepares said link.asked link.is_up;
       named = named_by said link.named;
+      value = values said link.asked link.value;
       cursor = plays said link.asked link.cursor;
       link = after;
     }
@@ -223,28 +268,48 @@ read_here past numbers link new others said found after are distinct not_idle fo
     let whole : new ≡ record (link_of past s.first) {
       is_up = prepared_by said (asked_on s.first past) (is_up s.first past);
       named = named_by said (named_on s.first past);
+      value = valued_by said (asked_on s.first past) (value_on s.first past);
       cursor = played_by said (asked_on s.first past) (played_on s.first past);
       link = kept (step (linked s.first past)).after;
     } =
     new_is ∙ ap (λ (l : NumberedLink). record l {
       is_up = prepares said l.asked l.is_up;
       named = named_by said l.named;
+      value = values said l.asked l.value;
       cursor = plays said l.asked l.cursor;
       link = after;
     }) s.is
     ∙ whole_by (link_of past s.first) (prepares_is said (asked_on s.first past) (is_up s.first past))
-    (plays_is said (asked_on s.first past) (played_on s.first past)) t.1 in
+    (values_is said (asked_on s.first past) (value_on s.first past)) (plays_is said (asked_on s.first past) (played_on s.first past)) t.1 in
     let is : found ≡ record {
       link = s.first;
       server = server_of s.first past;
       said = said;
       asked = option_map asked_for (asked_on s.first past);
       named = named_by said (named_on s.first past);
+      checked = checked_on s.first said past;
     } =
-    found_is ∙ ap (λ (l : NumberedLink). record { link = l.number; server = l.server; said = said; asked = l.asked; named = named_by said l.named }) s.is in
+    found_is ∙ ap (λ (l : NumberedLink). record {
+      link = l.number;
+      server = l.server;
+      said = said;
+      asked = l.asked;
+      named = named_by said l.named;
+      checked = checks said l.asked (values said l.asked l.value);
+    }) s.is
+    ∙ ap (λ (c : Option Causal). record {
+      link = s.first;
+      server = server_of s.first past;
+      said = said;
+      asked = option_map asked_for (asked_on s.first past);
+      named = named_by said (named_on s.first past);
+      checked = c;
+    }) (ap (checks said (option_map asked_for (asked_on s.first past))) (values_is said (asked_on s.first past) (value_on s.first past))
+    ∙ checks_is said (asked_on s.first past) (valued_by said (asked_on s.first past) (value_on s.first past))) in
     rw s.are (subst (λ (f : Coming). ReadsFirst past (s.first ∷ s.rest) (Some f) (new ∷ others)) (sym is) (
       rw (← t.0) (rw (said_not_idle s.first said not_idle) refl),
       rw (itself s.first) refl,
+      refl,
       refl,
       refl,
       refl,
@@ -281,8 +346,9 @@ read_behind past numbers link new others behind are distinct stays_so takes resu
           there.2,
           there.3,
           there.4,
+          there.5,
           changes_behind past (Comes found.link found.said) found.link (coming_about past found.link found.said) first rest new behind is differ
-              there.5,
+              there.6,
         )
 
 -- a link of this number is there

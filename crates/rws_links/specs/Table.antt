@@ -4,6 +4,11 @@ use Rattle.std.specs.Option.{option_map}
 use Rattle.rws_reply.specs.declared.kind.Kind.{Kind}
 use Rattle.rws_reply.specs.declared.kind.Outcome.TheVariants.{Done, Failed}
 use Rattle.rws_reply.specs.declared.kind.Progress.TheVariants.{Whole as Ends}
+use Rattle.rws_result.specs.declared.one_value.OneValue.{OneValue}
+use Rattle.rws_result.specs.declared.one_value.OneValue.TheVariants.{Begins}
+use Rattle.rws_result.specs.OneValues.{heard, value_of}
+use Rattle.rws_causal.specs.declared.causal.Causal.{Causal}
+use Rattle.rws_causal.specs.Rules.{after_probe, after_wait}
 use Rattle.rws_link.specs.declared.step.LinkStep.{LinkStep}
 use Rattle.rws_link.specs.declared.step.LinkStep.TheVariants as steps
 use Rattle.rws_link.specs.Linking.{IsReady, kept}
@@ -15,10 +20,10 @@ use Rattle.rws_record.specs.Item.Put.{Sends}
 use Rattle.rws_msgs.specs.declared.prepare_ok.PrepareOk.{PrepareOk}
 use Rattle.rws_commands.specs.declared.history.PreparedAs.{PreparedAs}
 use Rattle.rws_commands.specs.Statements.{is_otherwise}
-use Rattle.rws_record.specs.Values.{asked_on, contains, is_up, kind_of, linked, named_by, named_on, sent_all, sent_for, server_of}
+use Rattle.rws_record.specs.Values.{asked_on, checked_on, contains, is_up, kind_of, linked, named_by, named_on, sent_all, sent_for, server_of}
 use Rattle.rws_record.specs.Rules.{due_arrival, is_ready, is_same}
 use Rattle.rws_links.specs.declared.numbered.Asked.{Asked}
-use Rattle.rws_links.specs.declared.numbered.Asked.TheVariants.{Preamble, Entry as AnEntry, Command as ACommand}
+use Rattle.rws_links.specs.declared.numbered.Asked.TheVariants.{Preamble, Entry as AnEntry, Command as ACommand, Wait, Probe}
 use Rattle.rws_links.specs.declared.coming.Coming.{Coming}
 use Rattle.rws_links.specs.declared.numbered.NumberedLink.{NumberedLink}
 use Rattle.rws_links.specs.Links.{asked_for, link_of}
@@ -40,7 +45,7 @@ ReadsFirst past links None new = (due_arrival links past ≡ None) × (new ≡ m
 ReadsFirst past links (Some found) new =
     (due_arrival links past ≡ Some (Comes found.link found.said)) × (contains found.link links ≡ true)
     × (found.asked ≡ option_map asked_for (asked_on found.link past)) × (found.server ≡ server_of found.link past)
-    × (found.named ≡ named_by found.said (named_on found.link past))
+    × (found.named ≡ named_by found.said (named_on found.link past)) × (found.checked ≡ checked_on found.link found.said past)
     × (new ≡ map (link_of (Comes found.link found.said ∷ past)) links)
 
 -- Sending
@@ -49,19 +54,21 @@ ReadsFirst past links (Some found) new =
 abbrev pub IsSending : Asked → List (List ℕ) → Kind → Purpose → Type 0
 IsSending asked payloads kind purpose = (asked_for purpose ≡ asked) × (sent_for purpose ≡ payloads) × (kind_of purpose ≡ kind)
 
--- entries of the history and commands of the client go on links that are prepared
+-- entries of the history, commands of the client and what goes before these go on links that are prepared
 abbrev pub needs_prepared : Asked → Bool
 needs_prepared Preamble = false
 needs_prepared (AnEntry serial statement) = true
 needs_prepared ACommand = true
+needs_prepared Wait = true
+needs_prepared (Probe gtid) = true
 
 abbrev pub MayBeSent : Asked → NumberedLink → Type 0
 MayBeSent asked link = (link.is_up ≡ needs_prepared asked) × IsReady link.link
 
--- something is sent on a link, or isn't: payloads of which the last is answered, by a reply that told of no statement yet
+-- something is sent on a link, or isn't: payloads of which the last is answered, by a reply that told of no statement and no value yet
 abbrev pub GoesOut : Asked → List (List ℕ) → Kind → (old : NumberedLink) → Bool → (new : NumberedLink) → Type 0
 GoesOut asked payloads kind old true new =
-    MayBeSent asked old × (new ≡ record old { asked = Some asked; named = None; link = new.link })
+    MayBeSent asked old × (new ≡ record old { asked = Some asked; named = None; value = Begins; link = new.link })
     × (old.link ≡ kept Rests → new.link ≡ kept (sent_all payloads kind))
 GoesOut asked payloads kind old false new = (MayBeSent asked old → ⊥) × (new ≡ old)
 
@@ -122,6 +129,36 @@ is_different said asked named = (is_failed said && is_entry asked) || (is_whole 
 -- a server that does so is one more of those that are banned; `named` is the statement that its reply told of
 abbrev pub bans : LinkStep → Option Asked → (named : Option PrepareOk) → (server : ℕ) → ℕ → ℕ
 bans said asked named server before = if is_different said asked named then with_server server before else before
+
+-- What goes before a read
+
+abbrev pub is_check : Option Asked → Bool
+is_check (Some Wait) = true
+is_check (Some (Probe gtid)) = true
+is_check _ = false
+
+-- the answer to a wait or a probe is read as a result set of one value
+abbrev pub valued_in : Option Asked → List ℕ → OneValue → OneValue
+valued_in asked payload before = if is_check asked then heard before payload else before
+
+abbrev pub values : LinkStep → Option Asked → OneValue → OneValue
+values (steps.Part payload role progress next behind) asked before = valued_in asked payload before
+values _ asked before = before
+
+-- it is the end of a reply
+abbrev pub is_ended : LinkStep → Bool
+is_ended (steps.Part payload role (Ends outcome) next behind) = true
+is_ended _ = false
+
+-- what comes next, where the answer's value is this
+abbrev pub checks_by : Option Asked → OneValue → Option Causal
+checks_by (Some Wait) value = Some (after_wait (value_of value))
+checks_by (Some (Probe gtid)) value = Some (after_probe gtid (value_of value))
+checks_by _ value = None
+
+-- a wait or a probe was answered to its end
+abbrev pub checks : LinkStep → Option Asked → OneValue → Option Causal
+checks said asked value = if is_ended said then checks_by asked value else None
 
 -- the link of this number led the entry of this serial
 abbrev pub led : (number serial : ℕ) → NumberedLink → NumberedLink

@@ -6,12 +6,13 @@ ghost use Rattle.rws_links.specs.Table.{AreDistinct, ReadsFirst, bans, is_differ
 
 use crate::numbered::is_whole;
 use crate::{Asked, NumberedLink};
+use rws_causal::Causal;
 use rws_commands::{PreparedAs, is_otherwise};
 use rws_link::LinkStep;
 use rws_msgs::PrepareOk;
 use rws_reply::{Outcome, Progress};
 use rws_routing::with_server;
-use std::alloc::AllocError;
+use std::alloc::{AllocError, Global};
 
 /// What a link said.
 #[derive(Drop)]
@@ -26,6 +27,8 @@ pub struct Coming {
     pub asked: Option<Asked>,
     /// The statement that the reply told of so far, with what was said, if what was asked is a prepare.
     pub named: Option<PrepareOk>,
+    /// What comes next of the pending read, if what was asked goes before it, and is answered to its end with what was said.
+    pub checked: Option<Causal>,
 }
 
 impl Coming {
@@ -57,7 +60,7 @@ fn is_entry(asked: Option<Asked>) -> bool
 {
     match asked {
         Some(Asked::Entry { .. }) => true,
-        Some(Asked::Preamble | Asked::Command) | None => false,
+        Some(Asked::Preamble | Asked::Command | Asked::Wait | Asked::Probe(_)) | None => false,
     }
 }
 
@@ -67,7 +70,7 @@ fn statement_of(asked: Option<Asked>) -> Option<PreparedAs>
 {
     match asked {
         Some(Asked::Entry { statement, .. }) => statement,
-        Some(Asked::Preamble | Asked::Command) | None => None,
+        Some(Asked::Preamble | Asked::Command | Asked::Wait | Asked::Probe(_)) | None => None,
     }
 }
 
@@ -85,7 +88,10 @@ fn is_failed(said: &LinkStep) -> bool
 }
 
 /// Asks links in their order, up to the first that has something to say.
-pub(crate) fn read_first(links: &mut [NumberedLink]) -> Result<Option<Coming>, AllocError>
+pub(crate) fn read_first(
+    alloc: Global,
+    links: &mut [NumberedLink],
+) -> Result<Option<Coming>, AllocError>
     ensures ok { (past : List Item) (numbers : List ℕ) → links.old ≡ map (link_of past) numbers → AreDistinct numbers
         → IfOk result (λ found. ReadsFirst past numbers found links.new) }
     ensures numbers { map number_of links.new ≡ map number_of links.old }
@@ -93,8 +99,8 @@ pub(crate) fn read_first(links: &mut [NumberedLink]) -> Result<Option<Coming>, A
     match links.split_first_mut() {
         None => Ok(None),
         Some((first, others)) => match first.link.next()? {
-            LinkStep::Idle => read_first(others),
-            said => Ok(Some(first.hear(said)?)),
+            LinkStep::Idle => read_first(alloc, others),
+            said => Ok(Some(first.hear(alloc, said)?)),
         },
     }
 }

@@ -6,14 +6,34 @@ ghost use Rattle.rws_link.specs.Linking.{kept};
 ghost use Rattle.rws_msgs.specs.PrepareOkLayout.{prepare_ok_at};
 ghost use Rattle.rws_record.specs.Values.{named_by, prepared_in};
 ghost use Rattle.rws_links.specs.declared.numbered.Asked.TheVariants.{Command as ACommand};
-ghost use Rattle.rws_links.specs.Table.{GoesOut, MayBeSent, behind_entry, is_preamble, is_whole, led, needs_prepared, plays, prepares};
+ghost use Rattle.rws_result.specs.declared.one_value.OneValue.TheVariants.{Begins};
+ghost use Rattle.rws_links.specs.Table.{
+  GoesOut,
+  MayBeSent,
+  behind_entry,
+  checks,
+  checks_by,
+  is_check,
+  is_ended,
+  is_preamble,
+  is_whole,
+  led,
+  needs_prepared,
+  plays,
+  prepares,
+  valued_in,
+  values,
+};
 
 use crate::Coming;
 use crate::sending::{put_silent, send_each};
+use rws_causal::{Causal, probed, waited};
 use rws_commands::PreparedAs;
+use rws_gtid::Gtid;
 use rws_link::{Link, LinkStep};
 use rws_msgs::PrepareOk;
 use rws_reply::{Kind, Outcome, Progress, Role};
+use rws_result::OneValue;
 use rws_wire::PayloadList;
 use std::alloc::{AllocError, Global};
 
@@ -31,6 +51,10 @@ pub enum Asked {
     },
     /// A command of the client.
     Command,
+    /// That a replica is to wait until it has a commit, before a read.
+    Wait,
+    /// That the primary is to tell its position, which has to reach this commit, before a read.
+    Probe(Gtid),
 }
 
 /// A link with its number, to a server of the settings.
@@ -46,6 +70,8 @@ pub struct NumberedLink {
     pub asked: Option<Asked>,
     /// The statement that the reply to this told of so far, if it is a prepare.
     pub named: Option<PrepareOk>,
+    /// How far the answer to this was read, if it is a wait or a probe.
+    pub value: OneValue,
     /// It has played, or led, the entries of the session's history below this serial.
     pub cursor: u64,
     /// The connection itself.
@@ -53,7 +79,7 @@ pub struct NumberedLink {
 }
 
 impl NumberedLink {
-    /// The link is ready for this: entries and commands go on one that is prepared, and the preamble on one that isn't.
+    /// The link is ready for this: the preamble goes on one that isn't prepared, and all else on one that is.
     fn may_be_sent(&self, asked: Asked) -> bool
         ensures { (result ≡ true) ↔ MayBeSent asked self.now }
     {
@@ -123,12 +149,13 @@ impl NumberedLink {
         Ok(true)
     }
 
-    /// This was sent, and its reply told of no statement yet.
+    /// This was sent, and its reply told of no statement and no value yet.
     fn note(&mut self, asked: Asked)
-        ensures { self.new ≡ record self.old { asked = Some asked; named = None } }
+        ensures { self.new ≡ record self.old { asked = Some asked; named = None; value = Begins } }
     {
         self.asked = Some(asked);
         self.named = None;
+        self.value = OneValue::Begins;
     }
 
     /// Puts a command out that has no reply, if the link is free for commands of the client, and says whether it was put.
@@ -149,18 +176,20 @@ impl NumberedLink {
     }
 
     /// The link said something: the whole reply to its preamble, without an error, prepares it, and with that to an entry it has
-    /// played the entry.
-    pub(crate) fn hear(&mut self, said: LinkStep) -> Result<Coming, AllocError>
+    /// played the entry. The answer to a wait or a probe is read payload by payload, and nothing of it kept but its value.
+    pub(crate) fn hear(&mut self, alloc: Global, said: LinkStep) -> Result<Coming, AllocError>
         ensures coming { IfOk result (λ coming. coming ≡ record {
           link = self.old.number;
           server = self.old.server;
           said = said;
           asked = self.old.asked;
           named = named_by said self.old.named;
+          checked = checks said self.old.asked (values said self.old.asked self.old.value);
         }) }
         ensures heard { OnOk result (self.new ≡ record self.old {
           is_up = prepares said self.old.asked self.old.is_up;
           named = named_by said self.old.named;
+          value = values said self.old.asked self.old.value;
           cursor = plays said self.old.asked self.old.cursor;
         }) }
         ensures number { self.new.number ≡ self.old.number }
@@ -168,13 +197,38 @@ impl NumberedLink {
         self.cursor = played(&said, self.asked, self.cursor)?;
         self.is_up = prepared(&said, self.asked, self.is_up);
         self.named = named_by(&said, self.named);
+        self.read_on(alloc, &said)?;
+        let checked = checks(&said, self.asked, &self.value);
         Ok(Coming {
             link: self.number,
             server: self.server,
             said,
             asked: self.asked,
             named: self.named,
+            checked,
         })
+    }
+
+    /// What is said now of the answer to a wait or a probe is read.
+    fn read_on(&mut self, alloc: Global, said: &LinkStep) -> Result<(), AllocError>
+        ensures value { OnOk result (self.new ≡ record self.old { value = values said.now self.old.asked self.old.value }) }
+        ensures rest { self.new ≡ record self.old { value = self.new.value } }
+    {
+        match said {
+            LinkStep::Part { payload, .. } => self.read_payload(alloc, payload.as_slice()),
+            _ => Ok(()),
+        }
+    }
+
+    /// A payload came of the reply to what was sent last.
+    fn read_payload(&mut self, alloc: Global, payload: &[u8]) -> Result<(), AllocError>
+        ensures value { OnOk result (self.new ≡ record self.old { value = valued_in self.old.asked payload.now self.old.value }) }
+        ensures rest { self.new ≡ record self.old { value = self.new.value } }
+    {
+        if !is_check(self.asked) {
+            return Ok(());
+        }
+        self.value.hear(alloc, payload)
     }
 
     /// The link led the entry of this serial, if it has this number: it needn't play it.
@@ -189,13 +243,13 @@ impl NumberedLink {
     }
 }
 
-/// Entries of the history and commands of the client go on links that are prepared.
+/// Entries of the history, commands of the client and what goes before these go on links that are prepared.
 fn needs_prepared(asked: Asked) -> bool
     ensures { result ≡ needs_prepared asked }
 {
     match asked {
         Asked::Preamble => false,
-        Asked::Entry { .. } | Asked::Command => true,
+        Asked::Entry { .. } | Asked::Command | Asked::Wait | Asked::Probe(_) => true,
     }
 }
 
@@ -215,7 +269,7 @@ fn is_preamble(asked: Option<Asked>) -> bool
 {
     match asked {
         Some(Asked::Preamble) => true,
-        Some(Asked::Entry { .. } | Asked::Command) | None => false,
+        Some(Asked::Entry { .. } | Asked::Command | Asked::Wait | Asked::Probe(_)) | None => false,
     }
 }
 
@@ -235,7 +289,7 @@ fn behind_entry(asked: Option<Asked>, cursor: u64) -> Result<u64, AllocError>
 {
     match asked {
         Some(Asked::Entry { serial, .. }) => one_more(serial),
-        Some(Asked::Preamble | Asked::Command) | None => Ok(cursor),
+        Some(Asked::Preamble | Asked::Command | Asked::Wait | Asked::Probe(_)) | None => Ok(cursor),
     }
 }
 
@@ -270,6 +324,50 @@ fn prepared_in(payload: &[u8]) -> Option<PrepareOk>
     match PrepareOk::decode(payload) {
         Ok(ok) => Some(ok),
         Err(_) => None,
+    }
+}
+
+/// What was asked is what goes before a read.
+fn is_check(asked: Option<Asked>) -> bool
+    ensures { result ≡ is_check asked }
+{
+    match asked {
+        Some(Asked::Wait | Asked::Probe(_)) => true,
+        Some(Asked::Preamble | Asked::Entry { .. } | Asked::Command) | None => false,
+    }
+}
+
+/// What comes next of a read, where this ends the answer to what went before it, and the answer's value is so.
+fn checks(said: &LinkStep, asked: Option<Asked>, value: &OneValue) -> Option<Causal>
+    ensures { result ≡ checks said.now asked value.now }
+{
+    if is_ended(said) {
+        return checks_by(asked, value);
+    }
+    None
+}
+
+/// What comes next of a read, where the answer to this is whole.
+fn checks_by(asked: Option<Asked>, value: &OneValue) -> Option<Causal>
+    ensures { result ≡ checks_by asked value.now }
+{
+    match asked {
+        Some(Asked::Wait) => Some(waited(value.value())),
+        Some(Asked::Probe(wanted)) => Some(probed(value.value(), wanted)),
+        Some(Asked::Preamble | Asked::Entry { .. } | Asked::Command) | None => None,
+    }
+}
+
+/// It is the end of a reply.
+fn is_ended(said: &LinkStep) -> bool
+    ensures { result ≡ is_ended said.now }
+{
+    match said {
+        LinkStep::Part {
+            progress: Progress::Whole(_),
+            ..
+        } => true,
+        _ => false,
     }
 }
 

@@ -23,7 +23,8 @@ pub fn own_ok(status: u16) -> [u8; 7]
 pub fn reserve_farewell(alloc: Global) -> Result<Vec<u8>, AllocError>
     ensures { IfOk result (λ packet. packet.items ≡ spelling 1 (err_bytes (error_of OutOfMemory))) }
 {
+    let payload = ProxyError::OutOfMemory.payload(alloc)?;
     let mut packet = Vec::new(alloc);
-    frame(ProxyError::OutOfMemory.payload(), 1, &mut packet)?;
+    frame(payload.as_slice(), 1, &mut packet)?;
     Ok(packet)
 }

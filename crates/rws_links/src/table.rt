@@ -5,6 +5,7 @@
 ghost use Rattle.std.specs.Prelude.{◌≡◌, ◌==◌, ◌<◌, ◌&&◌, ◌∷◌, ◌++◌, [], List, None, ℕ, IfOk, IfSome, OnErr, OnOk, MatchOption, length, count_by, map, true, if◌then◌else◌};
 ghost use Rattle.std.specs.List.{list_any, position};
 ghost use Rattle.rws_wire.specs.Packets.{spelling};
+ghost use Rattle.rws_result.specs.declared.one_value.OneValue.TheVariants.{Begins};
 ghost use Rattle.rws_link.specs.Stepping.{Rests};
 ghost use Rattle.rws_link.specs.Linking.{is_awaiting, kept};
 ghost use Rattle.rws_record.specs.Item.{Item, Purpose};
@@ -25,6 +26,7 @@ use rws_commands::{Command, HistoryEntry};
 use rws_link::Link;
 use rws_native::Login;
 use rws_reply::Kind;
+use rws_result::OneValue;
 use rws_wire::{PayloadList, Text};
 use std::alloc::{AllocError, Global};
 use std::marker::Model;
@@ -52,7 +54,7 @@ impl Model for LinkTable {
 impl LinkTable {
     /// A table of one link, to a server of the settings, that is ready for commands.
     pub fn begin(alloc: Global, number: u64, server: u8) -> Result<LinkTable, AllocError>
-        ensures { IfOk result (λ table. table ≡ record { number = number; server = server; is_up = true; asked = None; named = None; cursor = 0; link = kept Rests } ∷ []) }
+        ensures { IfOk result (λ table. table ≡ record { number = number; server = server; is_up = true; asked = None; named = None; value = Begins; cursor = 0; link = kept Rests } ∷ []) }
     {
         let mut links = Vec::new(alloc);
         links.push(NumberedLink {
@@ -61,6 +63,7 @@ impl LinkTable {
             is_up: true,
             asked: None,
             named: None,
+            value: OneValue::Begins,
             cursor: 0,
             link: ready_link(alloc)?,
         })?;
@@ -97,6 +100,7 @@ impl LinkTable {
             is_up: false,
             asked: None,
             named: None,
+            value: OneValue::Begins,
             cursor: 0,
             link,
         })?;
@@ -188,9 +192,9 @@ impl LinkTable {
     }
 
     /// Sends payloads on a link, each as a command of its own, of which the last is answered by a reply of this kind, if the link is
-    /// there and may be sent them; the answer is whether they were. Entries and commands go on a link that is prepared, the
-    /// preamble on one that isn't, all on one that has logged in and owes no reply. What goes out for each payload is appended to
-    /// `out`, as packets from the number 0 on. No payloads send nothing, and leave the link at rest.
+    /// there and may be sent them; the answer is whether they were. The preamble goes on a link that isn't prepared, and all else on
+    /// one that is; it has logged in and owes no reply. What goes out for each payload is appended to `out`, as packets from the
+    /// number 0 on. No payloads send nothing, and leave the link at rest.
     pub fn send(
         &mut self,
         number: u64,
@@ -335,7 +339,8 @@ impl LinkTable {
             → IfOk result (λ found. ReadsFirst past links found self.new) }
         ensures numbers { map number_of self.new ≡ map number_of self.old }
     {
-        read_first(self.links.as_mut_slice())
+        let alloc = *self.links.allocator();
+        read_first(alloc, self.links.as_mut_slice())
     }
 }
 

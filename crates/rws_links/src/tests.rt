@@ -1,7 +1,9 @@
 //! A table's links from their opening to their end, with ample memory.
 
 use super::*;
+use rws_causal::Causal;
 use rws_commands::PreparedAs;
+use rws_gtid::Gtid;
 use rws_link::LinkStep;
 use rws_native::Login;
 use rws_reply::{Kind, Outcome, Progress};
@@ -152,6 +154,77 @@ fn a_command_is_due_on_its_link(rt: HostRuntime) -> Result<(), Fail> {
     assert_eq!(rt; (table.to_server(0), table.to_server(1)), (Some(3), None));
     let load = table.load(0);
     assert_eq!(rt; (load.pending, load.links), (0, 1));
+    Ok(())
+}
+
+/// A result set of one column and one row in packets from 1 on: `0`, and `0-1-7`.
+const REACHED: &[u8] =
+    b"\x01\0\0\x01\x01\x17\0\0\x02\x03def\0\0\0\x01v\0\x0c?\0\x01\0\0\0\x03\x81\0\0\0\0\x05\0\0\x03\xfe\0\0\x02\0\x02\0\0\x04\x010\x05\0\0\x05\xfe\0\0\x02\0";
+
+const AT_SEVEN: &[u8] =
+    b"\x01\0\0\x01\x01\x17\0\0\x02\x03def\0\0\0\x01v\0\x0c?\0\x01\0\0\0\x03\x81\0\0\0\0\x05\0\0\x03\xfe\0\0\x02\0\x06\0\0\x04\x050-1-7\x05\0\0\x05\xfe\0\0\x02\0";
+
+/// The commits that reads want.
+const SEVENTH: Gtid = Gtid {
+    domain: 0,
+    server: 1,
+    sequence: 7,
+};
+
+const EIGHTH: Gtid = Gtid {
+    domain: 0,
+    server: 1,
+    sequence: 8,
+};
+
+/// What goes before a read, what answers it, and what comes next.
+const CHECKS: [(Asked, &[u8], Causal); 5] = [
+    (Asked::Wait, REACHED, Causal::Go),
+    (Asked::Wait, ERROR, Causal::TryPrimary),
+    (Asked::Wait, OK, Causal::TryPrimary),
+    (Asked::Probe(SEVENTH), AT_SEVEN, Causal::Go),
+    (
+        Asked::Probe(EIGHTH),
+        AT_SEVEN,
+        Causal::Stale {
+            wanted: 8,
+            found: 7,
+        },
+    ),
+];
+
+/// It is sent on link 3 and answered: what comes next, once the answer is whole.
+fn check(
+    alloc: Global,
+    table: &mut LinkTable,
+    asked: Asked,
+    answer: &[u8],
+) -> Result<Option<Causal>, AllocError> {
+    send(alloc, table, 3, asked)?;
+    table.feed(3, answer)?;
+    let mut checked = None;
+    for _ in 0..5 {
+        checked = checked.or(read_one(table)?);
+    }
+    Ok(checked)
+}
+
+fn read_one(table: &mut LinkTable) -> Result<Option<Causal>, AllocError> {
+    match table.read()? {
+        None => Ok(None),
+        Some(coming) => Ok(coming.checked),
+    }
+}
+
+#[test]
+fn answers_before_a_read(rt: HostRuntime) -> Result<(), Fail> {
+    let mut table = LinkTable::begin(rt.alloc(), 3, 0)?;
+    for (asked, answer, next) in CHECKS {
+        assert_eq!(rt;
+            check(rt.alloc(), &mut table, asked, answer).ok(),
+            Some(Some(next))
+        );
+    }
     Ok(())
 }
 
