@@ -3,15 +3,15 @@ use Rattle.std.proofs.Common.{◌≡◌, ℕ, Bool, true, false, List, [], ◌�
 use Rattle.std.specs.Prelude.{◌==◌, OnErr}
 use Rattle.std.specs.List.{list_any}
 use Rattle.std.proofs.lemmas.List.{append-nil}
-use Rattle.rws_board.specs.declared.action.Action.{Action}
 use Rattle.rws_config.specs.declared.config.Config.{Config}
+use Rattle.rws_record.specs.declared.output.Output.{Output}
 use Rattle.rws_record.specs.Item.{Item}
 use Rattle.rws_front.specs.Connection.{error_number}
 use Rattle.rws_front.specs.Fronting.{Fronting, fed}
 use Rattle.rws_record.specs.Record.{want_number}
 use Rattle.rws_record.specs.Values.{fronted, is_over, links, without}
 use Rattle.rws_record.specs.Record.GoesOn.{stays}
-use Rattle.rws_record.specs.Outputs.{actions_of}
+use Rattle.rws_record.specs.Outputs.{outputs_of}
 use Rattle.rws_links.specs.declared.numbered.NumberedLink.{NumberedLink}
 use Rattle.rws_links.proofs.TableLemmas.{without_is}
 use Rattle.rws_session.specs.declared.input.SessionInput.{SessionInput}
@@ -33,7 +33,7 @@ numbers_are : (past : List Item) (links : List ℕ) → map number_of (map (link
 numbers_are past [] = refl
 numbers_are past (link ∷ others) = ap (λ (numbers : List ℕ). link ∷ numbers) (numbers_are past others)
 
-abbrev with_links : ℕ → List Action → Bool → ℕ → List ℕ → Lasting
+abbrev with_links : ℕ → List Output → Bool → ℕ → List ℕ → Lasting
 with_links number outs over want links =
     record { number = number; outs = outs; links = links; over = over; farewell = farewell_packet; want_number = want }
 
@@ -55,7 +55,7 @@ stops config past old mid new g holds = record {
   given = g.given;
   lasts = holds ∙ lasts config g.reached mid g.is
       ∙ ap (λ (n : ℕ). lasting_of config n mid.outs g.reached) g.number
-      ∙ ap (λ (outs : List Action). lasting_of config old.number outs g.reached) g.waits;
+      ∙ ap (λ (outs : List Output). lasting_of config old.number outs g.reached) g.waits;
 }
 
 -- What is heard
@@ -111,8 +111,8 @@ breaks_at_once config past (Some item) old new part = record {
   reached = item ∷ past;
   went_on = stays;
   more = [];
-  given = sym (append-nil (actions_of old.number (item ∷ past)));
-  lasts = part ∙ ap (λ (outs : List Action). lasting_of config old.number outs (item ∷ past)) (sym (append-nil old.outs));
+  given = sym (append-nil (outputs_of old.number (item ∷ past)));
+  lasts = part ∙ ap (λ (outs : List Output). lasting_of config old.number outs (item ∷ past)) (sym (append-nil old.outs));
 }
 
 -- a session that started, and was stopped
@@ -137,8 +137,8 @@ turned_in_part config past (Some item) old mid new result told breaks = by_resul
       reached = b.reached;
       went_on = b.went_on;
       more = b.more;
-      given = ap (λ (n : ℕ). actions_of n b.reached) (sym told.0) ∙ b.given ∙ ap (λ (n : ℕ). actions_of n (item ∷ past) ++ b.more) told.0;
+      given = ap (λ (n : ℕ). outputs_of n b.reached) (sym told.0) ∙ b.given ∙ ap (λ (n : ℕ). outputs_of n (item ∷ past) ++ b.more) told.0;
       lasts = b.lasts
           ∙ ap (λ (n : ℕ). lasting_of config n (mid.outs ++ b.more) b.reached) told.0
-          ∙ ap (λ (outs : List Action). lasting_of config old.number (outs ++ b.more) b.reached) told.1;
+          ∙ ap (λ (outs : List Output). lasting_of config old.number (outs ++ b.more) b.reached) told.1;
     }

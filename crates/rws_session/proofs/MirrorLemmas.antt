@@ -12,7 +12,7 @@ use Rattle.rws_commands.specs.declared.proxy_error.ProxyError.{ProxyError}
 use Rattle.rws_commands.specs.declared.proxy_error.ProxyError.TheVariants as errors
 use Rattle.rws_record.specs.Item.{Ending, Item, Put, Recording}
 use Rattle.rws_record.specs.Item.Item.{Puts}
-use Rattle.rws_record.specs.Item.Put.{Hands, Tells, Routes, Opens, LogsInto, Sends, Forgets, Drops, Closes}
+use Rattle.rws_record.specs.Item.Put.{Hands, Tells, Records, Routes, Opens, LogsInto, Sends, Forgets, Drops, Closes}
 use Rattle.rws_record.specs.Item.Recording.{Nothing, Accepts, Keeps}
 use Rattle.rws_record.specs.Item.Tell.{Passes, Owns, Refuses}
 use Rattle.rws_commands.specs.Commands.{keeps}
@@ -91,9 +91,12 @@ put_is config past (Tells number (Refuses error)) others out o e =
     by_error errors.TooManyConnections = rw o refl
     by_error errors.CommandTooLarge = rw o refl
     by_error errors.NoPrimary = rw o refl
+    by_error (errors.PrimaryBehind wanted found) = rw o refl
     by_error errors.OutOfMemory = rw o refl
 put_is config past (Hands packets) others out o e =
     let same : outs.Hand packets ≡ out = cc in rw (← same) (rw o refl)
+put_is config past (Records server gtid) others out o e =
+    let same : outs.Record server gtid ≡ out = cc in rw (← same) (rw o refl)
 put_is config past Routes others out o e = absurd cc
 put_is config past (Opens link server login) others out o e = absurd cc
 put_is config past (LogsInto link packets) others out o e =

@@ -2,13 +2,19 @@
 use Rattle.std.proofs.Common.{◌≡◌, ℕ, length, Bool, true, false, List, [], ◌∷◌, ◌++◌, map, refl, sym, ap, subst, ◌∙◌, Option, Some, None, Result, Ok, Err, IfOk}
 use Rattle.std.specs.Prelude.{◌&&◌, not, if◌then◌else◌, is_some, is_none, IfSome}
 use Rattle.std.specs.Option.{option_map}
-use Rattle.std.proofs.lemmas.List.{append-nil}
+use Rattle.std.proofs.lemmas.List.{append-nil, map-append}
 use Rattle.std.proofs.lemmas.Simd.{map-map}
 use Rattle.rws_wire.specs.Packets.{spelling, number_behind}
 use Rattle.rws_wire.specs.declared.payload.Payload.{Payload}
 use Rattle.rws_reply.specs.declared.kind.Outcome.{Outcome}
 use Rattle.rws_reply.specs.declared.kind.Progress.{Progress}
 use Rattle.rws_reply.specs.declared.kind.Progress.TheVariants.{More, Whole as Ends}
+use Rattle.rws_reply.specs.declared.role.Role.{Role}
+use Rattle.rws_reply.specs.declared.role.Role.TheVariants as roles
+use Rattle.rws_gtid.specs.declared.Gtid.{Gtid}
+use Rattle.rws_causal.specs.declared.causal.Causal.{Causal}
+use Rattle.rws_routing.specs.declared.routing.Check.{Check}
+use Rattle.rws_routing.specs.declared.routing.Check.TheVariants.{Wait, Probe}
 use Rattle.rws_front.specs.declared.step.FrontStep.{FrontStep}
 use Rattle.rws_front.specs.declared.step.FrontStep.TheVariants as fronts
 use Rattle.rws_front.specs.Connection.{step_of}
@@ -17,17 +23,19 @@ use Rattle.rws_link.specs.declared.step.LinkStep.{LinkStep}
 use Rattle.rws_link.specs.declared.step.LinkStep.TheVariants as steps
 use Rattle.rws_trx.specs.declared.transaction.Transaction.{Transaction}
 use Rattle.rws_trx.specs.OnLinks.{status_of}
-use Rattle.rws_board.specs.declared.action.Action.{Action}
 use Rattle.rws_board.specs.declared.action.Action.TheVariants as actions
+use Rattle.rws_handles.specs.LinkIds.{Ids}
 use Rattle.rws_config.specs.declared.config.Config.{Config}
 use Rattle.rws_commands.specs.declared.command.Command.{Command}
 use Rattle.rws_commands.specs.declared.judged.Judged.{Judged}
+use Rattle.rws_record.specs.declared.output.Output.{Output}
+use Rattle.rws_record.specs.declared.output.Output.TheVariants.{Act}
 use Rattle.rws_record.specs.Item.{Ending, Item, Purpose, Put}
 use Rattle.rws_record.specs.Item.Item.{Comes, Connects, Floods, Puts, Takes}
 use Rattle.rws_commands.specs.declared.judged.Judged.TheVariants.{Leaves, IsOwn, IsRefused, IsSilent, HasTooMuch, Serves}
-use Rattle.rws_record.specs.Item.Put.{Hands, Tells, Routes, Opens, LogsInto, Sends, Forgets, Drops, Closes}
+use Rattle.rws_record.specs.Item.Put.{Hands, Tells, Records, Routes, Opens, LogsInto, Sends, Forgets, Drops, Closes}
 use Rattle.rws_record.specs.Item.Tell.{Passes, Owns, Refuses}
-use Rattle.rws_record.specs.Item.Purpose.{Prepares, Asks, Plays}
+use Rattle.rws_record.specs.Item.Purpose.{Prepares, Asks, Plays, Waits, Probes}
 use Rattle.rws_commands.specs.declared.history.HistoryEntry.{HistoryEntry}
 use Rattle.rws_commands.specs.declared.judged.Situation.{Situation}
 use Rattle.rws_commands.specs.Judging.{judged}
@@ -35,8 +43,8 @@ use Rattle.rws_commands.specs.Commands.{asked_under, class_of_command, is_sessio
 use Rattle.rws_commands.specs.Statements.{Statements, forgotten, is_full, last_serial, next_handle, stale_on, unplayed}
 use Rattle.rws_msgs.specs.declared.prepare_ok.PrepareOk.{PrepareOk}
 use Rattle.rws_reply.specs.declared.kind.Outcome.TheVariants.{Done, Failed}
-use Rattle.rws_record.specs.Values.{asked_on, asking_for, banned, banned_by, class_by_pending, contains, ends_transaction, fronted, goes_on, heard_on, held, is_up, kept_on, linked, links, named_by, named_in, named_on, pending, reply_number, routing, server_of, statements, transaction}
-use Rattle.rws_record.specs.Rules.{after_coming, after_command, after_connecting, after_flood, after_keeping, after_played, situation, due_arrival, due_flood, due_route, due_sends, due_take, flood_by, flood_limit, is_ready, is_same, next, owed, recording_by, route_by, take_by, taking}
+use Rattle.rws_record.specs.Values.{asked_on, asking_for, banned, banned_by, checked_on, class_by_pending, contains, ends_transaction, fronted, goes_on, heard_check, heard_on, held, is_up, kept_on, linked, links, named_by, named_in, named_on, pending, preamble, reply_number, routing, sent_for, server_of, statements, transaction}
+use Rattle.rws_record.specs.Rules.{after_coming, after_command, after_connecting, after_flood, after_keeping, after_part, after_played, commit_by, form_of, situation, due_arrival, due_flood, due_route, due_sends, due_take, flood_by, flood_limit, is_ready, is_same, next, owed, recording_by, recording_commit, route_by, take_by, taking}
 use Rattle.rws_record.specs.Outputs.{close_bytes, outs_for}
 use Rattle.rws_record.proofs.HistoryLemmas.{unplayed_is}
 use Rattle.rws_record.proofs.StepLemmas.{IsConnecting}
@@ -54,9 +62,9 @@ use Rattle.rws_links.specs.declared.history.Recording.TheVariants as recordings
 use Rattle.rws_links.specs.History.{recorded}
 use Rattle.rws_links.specs.Links.{asked_for, link_of}
 use Rattle.rws_session.specs.State.{State, erased, state_of}
-use Rattle.rws_links.specs.Table.{AreDistinct, ReadsFirst, SendsOn, bans}
+use Rattle.rws_links.specs.Table.{AreDistinct, ReadsFirst, SendsOn, bans, can_go_on}
 use Rattle.rws_session.specs.Kept.{Kept, Is}
-use Rattle.rws_session.specs.Steps.{SendsClose, SendsEntry, SendsPending, SendsPreamble, TakesSaid, Tries, Went, action_of, after_out, connects, due_put, ends_reply, found_due, gives, heard_in, id_in, is_keeping, is_unrouted, notes, others_dropped, owes, owes_for, owes_played, pending_by, recounted, sends, sends_in, situation_in, stands_at, statements_behind, takes, takes_coming, transaction_behind, unsent}
+use Rattle.rws_session.specs.Steps.{SendsClose, SendsEntry, SendsOwn, SendsPending, TakesSaid, Tries, Went, output_of, after_out, check_payload, check_purpose, commit_as, commit_said, connects, due_put, ends_reply, found_due, gives, heard_in, id_in, is_keeping, is_unrouted, notes, others_dropped, owes, owes_for, owes_part, owes_played, pending_by, recounted, sends, sends_in, situation_in, stands_at, statements_behind, takes, takes_coming, transaction_behind, unsent}
 use Rattle.rws_session.proofs.FrontLemmas.{idle_stays}
 use Rattle.rws_links.proofs.DistinctLemmas.{links_distinct}
 use Rattle.rws_links.proofs.FindLemmas.{asks, due_can_go, due_is, due_item, item_of, needs_up, playing}
@@ -66,11 +74,12 @@ use Rattle.rws_session.proofs.MirrorLemmas.{kept_is, others_are, put_is, owing_e
 -- What is owed
 
 out_is : (session : ℕ) (past : List Item) (put : Put) (out : Out) → erased put ≡ Some out
-    → action_of session out ∷ [] ≡ outs_for session put past
+    → output_of session out ∷ [] ≡ outs_for session put past
 out_is session past (Tells number (Passes link command payload ending recording)) out e = cc
 out_is session past (Tells number (Owns status)) out e = cc
 out_is session past (Tells number (Refuses error)) out e = cc
 out_is session past (Hands packets) out e = cc
+out_is session past (Records server gtid) out e = cc
 out_is session past Routes out e = absurd cc
 out_is session past (Opens link server login) out e = absurd cc
 out_is session past (LogsInto link packets) out e = cc
@@ -109,8 +118,8 @@ paid config past old mid new out is first left given =
           made = record {
             number = ap (λ (k : Kept). k.number) given ∙ ap (λ (k : Kept). k.number) left;
             outs = ap (λ (k : Kept). k.outs) given
-                ∙ ap (λ (k : Kept). k.outs ++ action_of k.number out ∷ []) left
-                ∙ ap (λ (more : List Action). old.outs ++ more) (out_is old.number past put out out_of);
+                ∙ ap (λ (k : Kept). k.outs ++ output_of k.number out ∷ []) left
+                ∙ ap (λ (more : List Output). old.outs ++ more) (out_is old.number past put out out_of);
             state = ap (λ (k : Kept). k.state) given ∙ ap (after_out out) state ∙ put_is config past put others out o out_of;
           };
         }
@@ -121,7 +130,7 @@ pub passed_last : (old answered noting told new : Kept) (number link behind : �
     → t ≡ transaction_behind link its.outcome old.state
     → answered ≡ record old { state = record old.state { statements = statements_behind link its recording old.state; pending = None } }
     → noting ≡ record answered { state = notes link recording answered.state }
-    → told ≡ record noting { outs = noting.outs ++ actions.ToClient noting.number (spelling number payload) ∷ [] }
+    → told ≡ record noting { outs = noting.outs ++ Act (actions.ToClient noting.number (spelling number payload)) ∷ [] }
     → behind ≡ number_behind number payload
     → new ≡ record told { state = ends_reply behind link t told.state.statements recording told.state }
     → new ≡ gives (outs.Pass number link payload (Some its) recording) old
@@ -129,11 +138,11 @@ passed_last old answered noting told new number link behind payload its t record
     now ∙ ap (λ (n : ℕ). record told { state = ends_reply n link t told.state.statements recording told.state }) behind_so
     ∙ ap (λ (k : Kept). record k { state = ends_reply (number_behind number payload) link t k.state.statements recording k.state }) told_so
     ∙ ap (λ (k : Kept). record k {
-      outs = k.outs ++ actions.ToClient k.number (spelling number payload) ∷ [];
+      outs = k.outs ++ Act (actions.ToClient k.number (spelling number payload)) ∷ [];
       state = ends_reply (number_behind number payload) link t k.state.statements recording k.state;
     }) (noted_so ∙ ap (λ (k : Kept). record k { state = notes link recording k.state }) first)
     ∙ ap (λ (t : Transaction). record old {
-      outs = old.outs ++ actions.ToClient old.number (spelling number payload) ∷ [];
+      outs = old.outs ++ Act (actions.ToClient old.number (spelling number payload)) ∷ [];
       state = ends_reply (number_behind number payload) link t
           (notes link recording (record old.state { statements = statements_behind link its recording old.state; pending = None })).statements recording
           (notes link recording (record old.state { statements = statements_behind link its recording old.state; pending = None }));
@@ -141,7 +150,7 @@ passed_last old answered noting told new number link behind payload its t record
     ∙ as_one recording
   where
     as_one : (recording : Recording) → record old {
-      outs = old.outs ++ actions.ToClient old.number (spelling number payload) ∷ [];
+      outs = old.outs ++ Act (actions.ToClient old.number (spelling number payload)) ∷ [];
       state = ends_reply (number_behind number payload) link (transaction_behind link its.outcome old.state)
           (notes link recording (record old.state { statements = statements_behind link its recording old.state; pending = None })).statements recording
           (notes link recording (record old.state { statements = statements_behind link its recording old.state; pending = None }));
@@ -186,10 +195,10 @@ asked_worker config past old new is o some now = record {
 -- Something is sent
 
 due_as : (config : Config) (past : List Item) (k : Kept) (found : Option Due) → Is config k past → found_due k.state ≡ found
-    → due_sends config (links past) past ≡ due_item (statements config past) (pending past) found
+    → due_sends config (links past) past ≡ due_item config.causal_timeout_s (routing config past).check (statements config past) (pending past) found
 due_as config past k found is e =
     let e : found_due (state_of config past) ≡ found = rw is.mirrors at e in
-    due_is config past (links past) (unplayed_is config past) (λ link has. has) ∙ ap (due_item (statements config past) (pending past)) e
+    due_is config past (links past) (unplayed_is config past) (λ link has. has) ∙ ap (due_item config.causal_timeout_s (routing config past).check (statements config past) (pending past)) e
 
 pub sent_nothing : (config : Config) (past : List Item) (k : Kept) → Is config k past → found_due k.state ≡ None
     → due_sends config (links past) past ≡ None
@@ -204,7 +213,7 @@ may_go config past k link entry what is e =
     due_can_go past (unsent (state_of config past)) (last_serial (statements config past).history) (links past) (record { link = link; what = what; entry = entry }) e
 
 prepared : (config : Config) (past : List Item) (link entry : ℕ) (went : Bool) (old new : Kept) → Is config old past → owed config past ≡ []
-    → found_due old.state ≡ Some (record { link = link; what = Preamble; entry = entry }) → SendsPreamble link went old new
+    → found_due old.state ≡ Some (record { link = link; what = Preamble; entry = entry }) → SendsOwn link preamble went old new
     → ((numbers : List ℕ) → old.state.links ≡ map (link_of past) numbers → AreDistinct numbers
     → SendsOn link Prepares past numbers went new.state.links)
     → Tries config (due_sends config (links past) past) past went old new
@@ -221,7 +230,7 @@ prepared config past link entry true old new is o first sends links_are =
       };
     }
   where
-    due_of : (command : Option Command) → item_of (statements config past) command link entry Preamble ≡ Some (Puts (Sends link Prepares))
+    due_of : (command : Option Command) → item_of config.causal_timeout_s (routing config past).check (statements config past) command link entry Preamble ≡ Some (Puts (Sends link Prepares))
     due_of None = refl
     due_of (Some command) = refl
 prepared config past link entry false old new is o first sends links_are =
@@ -231,7 +240,7 @@ prepared config past link entry false old new is o first sends links_are =
 pub prepared_or_not : (config : Config) (past : List Item) (link entry : ℕ) (old new : Kept) {E : Type 0} (result : Result Bool E)
     → Is config old past → owed config past ≡ []
     → found_due old.state ≡ Some (record { link = link; what = Preamble; entry = entry })
-    → IfOk result (λ went. SendsPreamble link went old new)
+    → IfOk result (λ went. SendsOwn link preamble went old new)
     → ((numbers : List ℕ) → old.state.links ≡ map (link_of past) numbers → AreDistinct numbers
     → IfOk result (λ went. SendsOn link Prepares past numbers went new.state.links))
     → IfOk result (λ went. Tries config (due_sends config (links past) past) past went old new)
@@ -241,7 +250,7 @@ prepared_or_not config past link entry old new (Err error) is o first sends link
 -- A server is told to close a statement, before what is due on its link.
 closed : (config : Config) (past : List Item) (link entry id : ℕ) (what : DueKind) (went : Bool) (old mid new : Kept) → Is config old past
     → owed config past ≡ [] → found_due old.state ≡ Some (record { link = link; what = what; entry = entry }) → needs_up what ≡ true
-    → item_of (statements config past) (pending past) link entry what ≡ Some (Puts (Forgets link id))
+    → item_of config.causal_timeout_s (routing config past).check (statements config past) (pending past) link entry what ≡ Some (Puts (Forgets link id))
     → mid ≡ record old { state = record old.state { statements = forgotten link old.state.statements } }
     → SendsClose link id went mid new
     → ((numbers : List ℕ) → mid.state.links ≡ map (link_of past) numbers → AreDistinct numbers
@@ -256,7 +265,7 @@ closed config past link entry id what true old mid new is o first up item mid_is
       is_due = due_as config past old (Some (record { link = link; what = what; entry = entry })) is first ∙ item;
       made = record {
         number = ap (λ (k : Kept). k.number) sends ∙ ap (λ (k : Kept). k.number) mid_is;
-        outs = ap (λ (k : Kept). k.outs) sends ∙ ap (λ (k : Kept). k.outs ++ actions.ToLink link (spelling 0 (close_bytes id)) ∷ []) mid_is;
+        outs = ap (λ (k : Kept). k.outs) sends ∙ ap (λ (k : Kept). k.outs ++ Act (actions.ToLink link (spelling 0 (close_bytes id))) ∷ []) mid_is;
         state = ap (λ (k : Kept). k.state) sends
             ∙ ap (λ (k : Kept). record k.state { links = new.state.links }) mid_is
             ∙ ap (λ (s : State). record s { statements = forgotten link s.statements; links = new.state.links }) is.mirrors
@@ -274,7 +283,7 @@ closed config past link entry id what false old mid new is o first up item mid_i
 
 pub closed_or_not : (config : Config) (past : List Item) (link entry id : ℕ) (what : DueKind) (old mid new : Kept) {E : Type 0} (result : Result Bool E)
     → Is config old past → owed config past ≡ [] → found_due old.state ≡ Some (record { link = link; what = what; entry = entry })
-    → needs_up what ≡ true → item_of (statements config past) (pending past) link entry what ≡ Some (Puts (Forgets link id))
+    → needs_up what ≡ true → item_of config.causal_timeout_s (routing config past).check (statements config past) (pending past) link entry what ≡ Some (Puts (Forgets link id))
     → mid ≡ record old { state = record old.state { statements = forgotten link old.state.statements } }
     → IfOk result (λ went. SendsClose link id went mid new)
     → ((numbers : List ℕ) → mid.state.links ≡ map (link_of past) numbers → AreDistinct numbers
@@ -287,7 +296,7 @@ closed_or_not config past link entry id what old mid new (Err error) is o first 
 -- what goes first on a link that has an entry to play, where an id is stale
 pub close_before_entry : (config : Config) (past : List Item) (k : Kept) (link entry id : ℕ) → Is config k past
     → is_some (unplayed entry k.state.statements) ≡ true → stale_on link k.state.statements ≡ Some id
-    → item_of (statements config past) (pending past) link entry AnEntry ≡ Some (Puts (Forgets link id))
+    → item_of config.causal_timeout_s (routing config past).check (statements config past) (pending past) link entry AnEntry ≡ Some (Puts (Forgets link id))
 close_before_entry config past k link entry id is some stale =
     by_entry (unplayed entry (statements config past)) (rw is.mirrors at some) (rw is.mirrors at stale)
   where
@@ -299,12 +308,12 @@ close_before_entry config past k link entry id is some stale =
 -- and where a command is to go there
 pub close_before_command : (config : Config) (past : List Item) (k : Kept) (link entry id : ℕ) → Is config k past
     → is_some k.state.pending ≡ true → stale_on link k.state.statements ≡ Some id
-    → item_of (statements config past) (pending past) link entry ACommand ≡ Some (Puts (Forgets link id))
+    → item_of config.causal_timeout_s (routing config past).check (statements config past) (pending past) link entry ACommand ≡ Some (Puts (Forgets link id))
 close_before_command config past k link entry id is some stale =
     by_pending (pending past) (rw is.mirrors at some) (rw is.mirrors at stale)
   where
     by_pending : (command : Option Command) → is_some command ≡ true → stale_on link (statements config past) ≡ Some id
-        → asks link (stale_on link (statements config past)) (asking_for command link (statements config past).table.links) ≡ Some (Puts (Forgets link id))
+        → asks link (stale_on link (statements config past)) (asking_for config.causal_timeout_s (routing config past).check command link (statements config past).table.links) ≡ Some (Puts (Forgets link id))
     by_pending None e s = absurd cc
     by_pending (Some command) e s = rw s refl
 
@@ -329,7 +338,7 @@ asked_nothing_on config past k link entry is first none =
     ∙ by_pending (pending past) (rw is.mirrors at none)
   where
     by_pending : (command : Option Command) → is_some command ≡ false
-        → asks link (stale_on link (statements config past)) (asking_for command link (statements config past).table.links) ≡ None
+        → asks link (stale_on link (statements config past)) (asking_for config.causal_timeout_s (routing config past).check command link (statements config past).table.links) ≡ None
     by_pending None e = refl
     by_pending (Some command) e = absurd cc
 
@@ -387,17 +396,17 @@ pending_went : (old mid owing put new : Kept) (link : ℕ) (command : Command) (
     → mid ≡ record old { state = record old.state { links = mid.state.links } }
     → keeping ≡ is_keeping command old.state.kept_on
     → owing ≡ record mid { state = record mid.state { owed = others_dropped keeping link mid.state.links ++ mid.state.owed } }
-    → put ≡ record owing { outs = owing.outs ++ map (λ bytes. actions.ToLink link bytes) packets }
+    → put ≡ record owing { outs = owing.outs ++ map (λ bytes. Act (actions.ToLink link bytes)) packets }
     → packets ≡ map (spelling 0) (asked_under (id_in link command old.state) command.body)
     → new ≡ record put { state = record put.state { sent_on = Some link; kept_on = if keeping then Some link else put.state.kept_on } }
     → new ≡ sends link command mid.state.links old
 pending_went old mid owing put new link command keeping packets mid_is keeping_is owing_is put_is packets_are new_is =
     let asked : List (List ℕ) = asked_under (id_in link command old.state) command.body in
-    let spelled = ap (map (λ bytes. actions.ToLink link bytes)) packets_are ∙ map-map (λ bytes. actions.ToLink link bytes) (spelling 0) asked in
+    let spelled = ap (map (λ bytes. Act (actions.ToLink link bytes))) packets_are ∙ map-map (λ bytes. Act (actions.ToLink link bytes)) (spelling 0) asked in
     new_is
     ∙ ap (λ (k : Kept). record k { state = record k.state { sent_on = Some link; kept_on = if keeping then Some link else k.state.kept_on } })
-    (put_is ∙ ap (λ (k : Kept). record k { outs = k.outs ++ map (λ bytes. actions.ToLink link bytes) packets }) owing_is)
-    ∙ ap (λ (more : List Action). record mid {
+    (put_is ∙ ap (λ (k : Kept). record k { outs = k.outs ++ map (λ bytes. Act (actions.ToLink link bytes)) packets }) owing_is)
+    ∙ ap (λ (more : List Output). record mid {
       outs = mid.outs ++ more;
       state = record mid.state {
         sent_on = Some link;
@@ -406,7 +415,7 @@ pending_went old mid owing put new link command keeping packets mid_is keeping_i
       };
     }) spelled
     ∙ ap (λ (keeping : Bool). record mid {
-      outs = mid.outs ++ map (λ payload. actions.ToLink link (spelling 0 payload)) asked;
+      outs = mid.outs ++ map (λ payload. Act (actions.ToLink link (spelling 0 payload))) asked;
       state = record mid.state {
         sent_on = Some link;
         kept_on = if keeping then Some link else mid.state.kept_on;
@@ -414,7 +423,7 @@ pending_went old mid owing put new link command keeping packets mid_is keeping_i
       };
     }) keeping_is
     ∙ ap (λ (k : Kept). record k {
-      outs = k.outs ++ map (λ payload. actions.ToLink link (spelling 0 payload)) asked;
+      outs = k.outs ++ map (λ payload. Act (actions.ToLink link (spelling 0 payload))) asked;
       state = record k.state {
         sent_on = Some link;
         kept_on = if is_keeping command old.state.kept_on then Some link else k.state.kept_on;
@@ -426,7 +435,7 @@ pub pending_gone : (old mid owing put new : Kept) (link : ℕ) (command : Comman
     → mid ≡ record old { state = record old.state { links = mid.state.links } }
     → keeping ≡ is_keeping command old.state.kept_on
     → owing ≡ record mid { state = record mid.state { owed = others_dropped keeping link mid.state.links ++ mid.state.owed } }
-    → put ≡ record owing { outs = owing.outs ++ map (λ bytes. actions.ToLink link bytes) packets }
+    → put ≡ record owing { outs = owing.outs ++ map (λ bytes. Act (actions.ToLink link bytes)) packets }
     → packets ≡ map (spelling 0) (asked_under (id_in link command old.state) command.body)
     → new ≡ record put { state = record put.state { sent_on = Some link; kept_on = if keeping then Some link else put.state.kept_on } }
     → new ≡ sends link command new.state.links old
@@ -434,41 +443,55 @@ pending_gone old mid owing put new link command keeping packets mid_is keeping_i
     let whole = pending_went old mid owing put new link command keeping packets mid_is keeping_is owing_is put_is packets_are new_is in
     whole ∙ ap (λ (l : List NumberedLink). sends link command l old) (sym (ap (λ (k : Kept). k.state.links) whole))
 
--- the pending command was tried on a link
+-- what is due for the pending command where its link's server is asked this first, or nothing
+due_checked : (config : Config) (past : List Item) (link entry : ℕ) (check : Option Check) (old : Kept) → Is config old past
+    → found_due old.state ≡ Some (record { link = link; what = ACommand; entry = entry }) → stale_on link old.state.statements ≡ None
+    → old.state.routing.check ≡ check
+    → due_sends config (links past) past
+    ≡ asks link None (asking_for config.causal_timeout_s check (pending past) link (statements config past).table.links)
+due_checked config past link entry check old is first stale checks =
+    let none : stale_on link (statements config past) ≡ None = rw is.mirrors at stale in
+    let checks : (routing config past).check ≡ check = rw is.mirrors at checks in
+    due_as config past old (Some (record { link = link; what = ACommand; entry = entry })) is first
+    ∙ ap (λ (stale : Option ℕ). asks link stale (asking_for config.causal_timeout_s (routing config past).check (pending past) link
+    (statements config past).table.links)) none
+    ∙ ap (λ (check : Option Check). asks link None (asking_for config.causal_timeout_s check (pending past) link
+    (statements config past).table.links)) checks
+
+-- the pending command was tried on a link, whose server needn't be asked anything first
 sent : (config : Config) (past : List Item) (link entry : ℕ) (went : Bool) (old new : Kept) → Is config old past → owed config past ≡ []
     → found_due old.state ≡ Some (record { link = link; what = ACommand; entry = entry }) → stale_on link old.state.statements ≡ None
+    → old.state.routing.check ≡ None
     → SendsPending link old.state.pending went old new
     → ((numbers : List ℕ) → old.state.links ≡ map (link_of past) numbers → AreDistinct numbers
     → IfSome old.state.pending (λ command. SendsOn link (Asks command (id_in link command old.state)) past numbers went new.state.links))
     → Tries config (due_sends config (links past) past) past went old new
-sent config past link entry went old new is o first stale sends links_are =
+sent config past link entry went old new is o first stale unchecked sends links_are =
     by_pending (pending past) refl went
     (subst (λ (s : State). SendsPending link s.pending went old new) is.mirrors sends)
     (subst (λ (s : State). IfSome s.pending (λ command. SendsOn link (Asks command (id_in link command s)) past (links past) went new.state.links)) is.mirrors
     (links_are (links past) (ap (λ (s : State). s.links) is.mirrors) (links_distinct is.legal)))
   where
-    due_here : due_sends config (links past) past ≡ asks link None (asking_for (pending past) link (statements config past).table.links)
-    due_here =
-        let none : stale_on link (statements config past) ≡ None = rw is.mirrors at stale in
-        due_as config past old (Some (record { link = link; what = ACommand; entry = entry })) is first
-        ∙ ap (λ (stale : Option ℕ). asks link stale (asking_for (pending past) link (statements config past).table.links)) none
+    due_here : due_sends config (links past) past
+        ≡ asks link None (asking_for config.causal_timeout_s None (pending past) link (statements config past).table.links)
+    due_here = due_checked config past link entry None old is first stale unchecked
 
     by_pending : (command : Option Command) → pending past ≡ command → (went : Bool) → SendsPending link command went old new
         → IfSome command (λ command. SendsOn link (Asks command (id_in link command (state_of config past))) past (links past) went new.state.links)
         → Tries config (due_sends config (links past) past) past went old new
     by_pending None p true sends now = absurd sends
     by_pending None p false sends now =
-        (due_here ∙ ap (λ (command : Option Command). asks link None (asking_for command link (statements config past).table.links)) p, sends)
+        (due_here ∙ ap (λ (command : Option Command). asks link None (asking_for config.causal_timeout_s None command link (statements config past).table.links)) p, sends)
     by_pending (Some command) p true sends now =
         let id : Option ℕ = id_in link command (state_of config past) in
         record {
           item = Puts (Sends link (Asks command id));
-          is_due = due_here ∙ ap (λ (command : Option Command). asks link None (asking_for command link (statements config past).table.links)) p;
+          is_due = due_here ∙ ap (λ (command : Option Command). asks link None (asking_for config.causal_timeout_s None command link (statements config past).table.links)) p;
           made = record {
             number = ap (λ (k : Kept). k.number) sends;
             outs = ap (λ (k : Kept). k.outs) sends
                 ∙ ap (λ (s : State). old.outs
-                ++ map (λ payload. actions.ToLink link (spelling 0 payload)) (asked_under (id_in link command s) command.body)) is.mirrors;
+                ++ map (λ payload. Act (actions.ToLink link (spelling 0 payload))) (asked_under (id_in link command s) command.body)) is.mirrors;
             state = ap (λ (k : Kept). k.state) sends
                 ∙ ap (λ (s : State). sends_in link command new.state.links s) is.mirrors
                 ∙ rw (
@@ -486,14 +509,82 @@ sent config past link entry went old new is o first stale sends links_are =
 
 pub sent_or_not : (config : Config) (past : List Item) (link entry : ℕ) (old new : Kept) {E : Type 0} (result : Result Bool E) → Is config old past
     → owed config past ≡ [] → found_due old.state ≡ Some (record { link = link; what = ACommand; entry = entry })
-    → stale_on link old.state.statements ≡ None
+    → stale_on link old.state.statements ≡ None → old.state.routing.check ≡ None
     → IfOk result (λ went. SendsPending link old.state.pending went old new)
     → ((numbers : List ℕ) → old.state.links ≡ map (link_of past) numbers → AreDistinct numbers
     → IfSome old.state.pending (λ command. IfOk result (λ went. SendsOn link (Asks command (id_in link command old.state)) past numbers went new.state.links)))
     → IfOk result (λ went. Tries config (due_sends config (links past) past) past went old new)
-sent_or_not config past link entry old new (Ok went) is o first stale sends links_are =
-    sent config past link entry went old new is o first stale sends links_are
-sent_or_not config past link entry old new (Err error) is o first stale sends links_are = tt
+sent_or_not config past link entry old new (Ok went) is o first stale unchecked sends links_are =
+    sent config past link entry went old new is o first stale unchecked sends links_are
+sent_or_not config past link entry old new (Err error) is o first stale unchecked sends links_are = tt
+
+-- What its server is asked first
+
+-- it is due where a command is
+check_due : (seconds link : ℕ) (check : Check) (command : Option Command) (ids : List Ids) → is_some command ≡ true
+    → asks link None (asking_for seconds (Some check) command link ids) ≡ Some (Puts (Sends link (check_purpose seconds check)))
+check_due seconds link check None ids e = absurd cc
+check_due seconds link (Wait gtid) (Some command) ids e = refl
+check_due seconds link (Probe gtid) (Some command) ids e = refl
+
+-- it goes on links that commands go on
+check_may_go : (link seconds : ℕ) (check : Check) (past : List Item) (numbers : List ℕ)
+    → can_go_on link (check_purpose seconds check) past numbers
+    ≡ (contains link numbers && (is_same true (is_up link past) && is_ready (linked link past)))
+check_may_go link seconds (Wait gtid) past numbers = refl
+check_may_go link seconds (Probe gtid) past numbers = refl
+
+check_outs : (link seconds : ℕ) (check : Check) → Act (actions.ToLink link (spelling 0 (check_payload seconds check))) ∷ []
+    ≡ map (λ payload. Act (actions.ToLink link (spelling 0 payload))) (sent_for (check_purpose seconds check))
+check_outs link seconds (Wait gtid) = refl
+check_outs link seconds (Probe gtid) = refl
+
+-- and changes its link alone
+check_sent : (config : Config) (past : List Item) (link seconds : ℕ) (check : Check) (links_now : List NumberedLink) → owed config past ≡ []
+    → links_now ≡ map (link_of (Puts (Sends link (check_purpose seconds check)) ∷ past)) (links past)
+    → record (state_of config past) { links = links_now } ≡ state_of config (Puts (Sends link (check_purpose seconds check)) ∷ past)
+check_sent config past link seconds (Wait gtid) links_now o l = rw (l, o) refl
+check_sent config past link seconds (Probe gtid) links_now o l = rw (l, o) refl
+
+-- it was tried on a link
+asked_first : (config : Config) (past : List Item) (link entry : ℕ) (check : Check) (went : Bool) (old new : Kept) → Is config old past
+    → owed config past ≡ [] → found_due old.state ≡ Some (record { link = link; what = ACommand; entry = entry })
+    → is_some old.state.pending ≡ true → stale_on link old.state.statements ≡ None → old.state.routing.check ≡ Some check
+    → SendsOwn link (check_payload config.causal_timeout_s check) went old new
+    → ((numbers : List ℕ) → old.state.links ≡ map (link_of past) numbers → AreDistinct numbers
+    → SendsOn link (check_purpose config.causal_timeout_s check) past numbers went new.state.links)
+    → Tries config (due_sends config (links past) past) past went old new
+asked_first config past link entry check true old new is o first some stale checks sends links_are =
+    let now = links_are (links past) (ap (λ (s : State). s.links) is.mirrors) (links_distinct is.legal) in
+    record {
+      item = Puts (Sends link (check_purpose config.causal_timeout_s check));
+      is_due = due_checked config past link entry (Some check) old is first stale checks
+          ∙ check_due config.causal_timeout_s link check (pending past) (statements config past).table.links (rw is.mirrors at some);
+      made = record {
+        number = ap (λ (k : Kept). k.number) sends;
+        outs = ap (λ (k : Kept). k.outs) sends ∙ ap (λ (more : List Output). old.outs ++ more) (check_outs link config.causal_timeout_s check);
+        state = ap (λ (k : Kept). k.state) sends
+            ∙ ap (λ (s : State). record s { links = new.state.links }) is.mirrors
+            ∙ check_sent config past link config.causal_timeout_s check new.state.links o now.1;
+      };
+    }
+asked_first config past link entry check false old new is o first some stale checks sends links_are =
+    let now = links_are (links past) (ap (λ (s : State). s.links) is.mirrors) (links_distinct is.legal) in
+    let clash : true ≡ false =
+    sym (may_go config past old link entry ACommand is first)
+    ∙ sym (check_may_go link config.causal_timeout_s check past (links past)) ∙ now.0 in absurd cc
+
+pub asked_first_or_not : (config : Config) (past : List Item) (link entry : ℕ) (check : Check) (old new : Kept) {E : Type 0}
+    (result : Result Bool E) → Is config old past → owed config past ≡ []
+    → found_due old.state ≡ Some (record { link = link; what = ACommand; entry = entry })
+    → is_some old.state.pending ≡ true → stale_on link old.state.statements ≡ None → old.state.routing.check ≡ Some check
+    → IfOk result (λ went. SendsOwn link (check_payload config.causal_timeout_s check) went old new)
+    → ((numbers : List ℕ) → old.state.links ≡ map (link_of past) numbers → AreDistinct numbers
+    → IfOk result (λ went. SendsOn link (check_purpose config.causal_timeout_s check) past numbers went new.state.links))
+    → IfOk result (λ went. Tries config (due_sends config (links past) past) past went old new)
+asked_first_or_not config past link entry check old new (Ok went) is o first some stale checks sends links_are =
+    asked_first config past link entry check went old new is o first some stale checks sends links_are
+asked_first_or_not config past link entry check old new (Err error) is o first some stale checks sends links_are = tt
 
 -- A flood behind it
 
@@ -536,6 +627,8 @@ heard_is link (steps.Part payload role (Ends outcome) next behind) (Some (Asks c
 heard_is link (steps.Part payload role (Ends (Done status)) next behind) (Some (Plays entry)) ends named s = refl
 heard_is link (steps.Part payload role (Ends (Failed code)) next behind) (Some (Plays entry)) ends named s = refl
 heard_is link (steps.Part payload role (Ends outcome) next behind) (Some Prepares) ends named s = refl
+heard_is link (steps.Part payload role (Ends outcome) next behind) (Some (Waits gtid seconds)) ends named s = refl
+heard_is link (steps.Part payload role (Ends outcome) next behind) (Some (Probes gtid)) ends named s = refl
 heard_is link (steps.Part payload role (Ends outcome) next behind) None ends named s = refl
 heard_is link (steps.Part payload role More next behind) purpose ends named s = refl
 heard_is link (steps.Lost cause) purpose ends named s = refl
@@ -550,21 +643,71 @@ follows_played link entry named More behind = refl
 follows_played link entry named (Ends (Done status)) behind = refl
 follows_played link entry named (Ends (Failed code)) behind = refl
 
+-- what follows on a payload of a reply, as code and as the definition have it
+follows_part : (config : Config) (past : List Item) (link : ℕ) (payload : List ℕ) (role : Role) (far : Progress) (next : ℕ) (behind : Bool)
+    (purpose : Option Purpose) (checked : Option Causal) (number : ℕ)
+    → owes_part link (option_map asked_for purpose) (form_of (next_handle (statements config past)) role payload)
+    (named_in role payload (named_on link past)) checked far behind number
+    (noted config past (heard config past link (steps.Part payload role far next behind) purpose))
+    ≡ map erased (after_part config link purpose (form_of (next_handle (statements config past)) role payload)
+    (named_in role payload (named_on link past)) checked far behind number past)
+follows_part config past link payload role More next behind (Some (Asks command id)) checked number = refl
+follows_part config past link payload role (Ends outcome) next behind (Some (Asks command id)) checked number = refl
+follows_part config past link payload role far next behind (Some (Plays entry)) checked number =
+    ap (map erased) (follows_played link entry (named_in role payload (named_on link past)) far behind)
+follows_part config past link payload role far next behind (Some Prepares) checked number = refl
+follows_part config past link payload role far next behind (Some (Waits gtid seconds)) checked number = refl
+follows_part config past link payload role far next behind (Some (Probes gtid)) checked number = refl
+follows_part config past link payload role far next behind None checked number = refl
+
+-- the commit that it tells of
+commit_is : (domain : ℕ) (role : Role) (payload : List ℕ) (purpose : Option Purpose)
+    → commit_as domain role payload (option_map asked_for purpose) ≡ commit_by domain role payload purpose
+commit_is domain roles.Ok payload None = refl
+commit_is domain roles.Ok payload (Some Prepares) = refl
+commit_is domain roles.Ok payload (Some (Asks command id)) = refl
+commit_is domain roles.Ok payload (Some (Plays entry)) = refl
+commit_is domain roles.Ok payload (Some (Waits gtid seconds)) = refl
+commit_is domain roles.Ok payload (Some (Probes gtid)) = refl
+commit_is domain roles.Err payload purpose = refl
+commit_is domain roles.Prepared payload purpose = refl
+commit_is domain roles.Count payload purpose = refl
+commit_is domain roles.Definition payload purpose = refl
+commit_is domain roles.Eof payload purpose = refl
+commit_is domain roles.Row payload purpose = refl
+
 -- what follows on what a link says, as code and as the definition have it
 follows : (config : Config) (past : List Item) (link : ℕ) (said : LinkStep) (purpose : Option Purpose) (number : ℕ)
-    → owes_for (next_handle (statements config past)) link said (option_map asked_for purpose) (named_by said (named_on link past)) number
-    (noted config past (heard config past link said purpose))
+    → map erased (recording_commit (server_of link past) (commit_said config.gtid_domain said (option_map asked_for purpose)))
+    ++ owes_for (next_handle (statements config past)) link said (option_map asked_for purpose) (named_by said (named_on link past))
+    (checked_on link said past) number (noted config past (heard config past link said purpose))
     ≡ map erased (after_coming config link said purpose number past)
-follows config past link (steps.Part payload role More next behind) (Some (Asks command id)) number = refl
-follows config past link (steps.Part payload role (Ends outcome) next behind) (Some (Asks command id)) number = refl
-follows config past link (steps.Part payload role far next behind) (Some (Plays entry)) number =
-    ap (map erased) (follows_played link entry (named_in role payload (named_on link past)) far behind)
-follows config past link (steps.Part payload role far next behind) (Some Prepares) number = refl
-follows config past link (steps.Part payload role far next behind) None number = refl
+follows config past link (steps.Part payload role far next behind) purpose number =
+    let checked : Option Causal = checked_on link (steps.Part payload role far next behind) past in
+    let commit : Option Gtid = commit_by config.gtid_domain role payload purpose in
+    let part : List Put = after_part config link purpose (form_of (next_handle (statements config past)) role payload)
+    (named_in role payload (named_on link past)) checked far behind number past in
+    rw (commit_is config.gtid_domain role payload purpose, follows_part config past link payload role far next behind purpose checked number)
+    (sym (map-append erased (recording_commit (server_of link past) commit) part))
 follows config past link (steps.Lost cause) purpose number = refl
 follows config past link (steps.Send packets) purpose number = refl
 follows config past link steps.LoggedIn purpose number = refl
 follows config past link steps.Idle purpose number = refl
+
+-- what is owed for it, by what the table says of it
+abbrev owing_in : Config → List Item → ℕ → LinkStep → Option Asked → (server : ℕ) → (named : Option PrepareOk) → (checked : Option Causal) → Statements → List (Option Out)
+owing_in config past link said asked server named checked then_so =
+    map erased (recording_commit server (commit_said config.gtid_domain said asked))
+    ++ owes_for (next_handle (statements config past)) link said asked named checked (reply_number past) (noted config past then_so)
+
+owes_as : (config : Config) (past : List Item) (link : ℕ) (said : LinkStep) (asked : Option Asked) (server : ℕ) (named : Option PrepareOk)
+    (checked : Option Causal) (then_so : Statements) → asked ≡ option_map asked_for (asked_on link past) → server ≡ server_of link past
+    → named ≡ named_by said (named_on link past) → checked ≡ checked_on link said past
+    → then_so ≡ heard config past link said (asked_on link past)
+    → owing_in config past link said asked server named checked then_so
+    ≡ map erased (after_coming config link said (asked_on link past) (reply_number past) past)
+owes_as config past link said asked server named checked then_so a s n c t =
+    rw (a, s, n, c, t) (follows config past link said (asked_on link past) (reply_number past))
 
 pub read_nothing : (config : Config) (past : List Item) (old new : Kept) → Is config old past
     → new ≡ record old { state = record old.state { links = new.state.links } }
@@ -578,26 +721,19 @@ read_nothing config past old new is rest read = (
 pub read_one : (config : Config) (past : List Item) (old mid new : Kept) (found : Coming) → Is config old past → owed config past ≡ []
     → mid ≡ record old { state = record old.state { links = mid.state.links } }
     → ReadsFirst past (links past) (Some found) mid.state.links
-    → new ≡ record mid { state = takes_coming config.history_limit found mid.state }
+    → new ≡ record mid { state = takes_coming config found mid.state }
     → Went config (due_arrival (links past) past) past old new
 read_one config past old mid new found is o rest first now =
     let purpose : Option Purpose = asked_on found.link past in
     let before : Option PrepareOk = named_on found.link past in
     let ends : Outcome → Bool = λ outcome. ends_transaction config found.link outcome past in
-    let handle : ℕ = next_handle (statements config past) in
     let then_so : Statements = heard_in found.link found.said found.asked ends found.named (statements config past) in
     let behind : then_so ≡ heard config past found.link found.said purpose =
     ap (λ (asked : Option Asked). heard_in found.link found.said asked ends found.named (statements config past)) first.2
     ∙ ap (λ (named : Option PrepareOk). heard_in found.link found.said (option_map asked_for purpose) ends named (statements config past)) first.4
     ∙ heard_is found.link found.said purpose ends before (statements config past) in
-    let owes : owes_for handle found.link found.said found.asked found.named (reply_number past) (noted config past then_so)
-    ≡ map erased (after_coming config found.link found.said purpose (reply_number past) past) =
-    ap (λ (s : Statements). owes_for handle found.link found.said found.asked found.named (reply_number past) (noted config past s)) behind
-    ∙ ap (λ (asked : Option Asked). owes_for handle found.link found.said asked found.named (reply_number past)
-    (noted config past (heard config past found.link found.said purpose))) first.2
-    ∙ ap (λ (named : Option PrepareOk). owes_for handle found.link found.said (option_map asked_for purpose) named (reply_number past)
-    (noted config past (heard config past found.link found.said purpose))) first.4
-    ∙ follows config past found.link found.said purpose (reply_number past) in
+    let owes = owes_as config past found.link found.said found.asked found.server found.named found.checked then_so first.2 first.3 first.4
+    first.5 behind in
     let banning : bans found.said found.asked found.named found.server (banned past) ≡ banned_by found.said purpose before (server_of found.link past) (banned past) =
     ap (λ (asked : Option Asked). bans found.said asked found.named found.server (banned past)) first.2
     ∙ ap (λ (server : ℕ). bans found.said (option_map asked_for purpose) found.named server (banned past)) first.3
@@ -610,10 +746,10 @@ read_one config past old mid new found is o rest first now =
         number = ap (λ (k : Kept). k.number) now ∙ ap (λ (k : Kept). k.number) rest;
         outs = ap (λ (k : Kept). k.outs) now ∙ ap (λ (k : Kept). k.outs) rest ∙ sym (append-nil old.outs);
         state = ap (λ (k : Kept). k.state) now
-            ∙ ap (λ (k : Kept). takes_coming config.history_limit found k.state) rest
-            ∙ ap (λ (s : State). takes_coming config.history_limit found (record s { links = mid.state.links })) is.mirrors
+            ∙ ap (λ (k : Kept). takes_coming config found k.state) rest
+            ∙ ap (λ (s : State). takes_coming config found (record s { links = mid.state.links })) is.mirrors
             ∙ came_so config past found mid.state.links then_so
-            (map erased (after_coming config found.link found.said purpose (reply_number past) past)) o first.5 banning behind owes;
+            (map erased (after_coming config found.link found.said purpose (reply_number past) past)) o first.6 banning behind first.5 owes;
       };
     }
   where
@@ -623,21 +759,35 @@ read_one config past old mid new found is o rest first now =
         → bans found.said found.asked found.named found.server (banned past)
         ≡ banned_by found.said (asked_on found.link past) (named_on found.link past) (server_of found.link past) (banned past)
         → then_so ≡ heard config past found.link found.said (asked_on found.link past)
-        → owes_for (next_handle (statements config past)) found.link found.said found.asked found.named (reply_number past) (noted config past then_so) ≡ owing
+        → found.checked ≡ checked_on found.link found.said past
+        → owing_in config past found.link found.said found.asked found.server found.named found.checked then_so ≡ owing
         → record (state_of config past) {
           links = links_now;
           banned = bans found.said found.asked found.named found.server (banned past);
           statements = then_so;
-          owed = owes_for (next_handle (statements config past)) found.link found.said found.asked found.named (reply_number past)
-              (noted config past then_so) ++ map erased (owed config past);
+          routing = heard_check found.checked (routing config past);
+          owed = map erased (recording_commit found.server (commit_said config.gtid_domain found.said found.asked))
+              ++ (owes_for (next_handle (statements config past)) found.link found.said found.asked found.named found.checked (reply_number past)
+              (noted config past then_so) ++ map erased (owed config past));
         }
         ≡ record (state_of (config) (past)) {
           links = map (link_of (Comes found.link found.said ∷ past)) (links past);
           banned = banned_by found.said (asked_on found.link past) (named_on found.link past) (server_of found.link past) (banned past);
           statements = heard config past found.link found.said (asked_on found.link past);
+          routing = heard_check (checked_on found.link found.said past) (routing config past);
           owed = owing;
         }
-    came_so config past found links_now then_so owing o l b s w = rw (o, w, append-nil owing, l, b, s) refl
+    came_so config past found links_now then_so owing o l b s c w =
+        rw (
+          o,
+          append-nil (owes_for (next_handle (statements config past)) found.link found.said found.asked found.named found.checked
+              (reply_number past) (noted config past then_so)),
+          w,
+          l,
+          b,
+          s,
+          c,
+        ) refl
 
 -- The client's next command
 

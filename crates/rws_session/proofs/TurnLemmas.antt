@@ -7,15 +7,15 @@ use Rattle.std.proofs.Common.{map}
 use Rattle.std.proofs.lemmas.List.{append-nil, append_assoc}
 use Rattle.rws_front.specs.Fronting.{fed}
 use Rattle.rws_link.specs.Stepping.{is_new}
-use Rattle.rws_board.specs.declared.action.Action.{Action}
 use Rattle.rws_config.specs.declared.config.Config.{Config}
+use Rattle.rws_record.specs.declared.output.Output.{Output}
 use Rattle.rws_record.specs.Item.{Item, Put}
 use Rattle.rws_record.specs.Item.Item.{LinkBytes}
 use Rattle.rws_record.specs.Values.{asking, contains, is_over, linked, links}
 use Rattle.rws_record.specs.Rules.{after_loss, due_arrival, due_flood, due_route, due_sends, due_take, next, owed}
 use Rattle.rws_record.specs.Record.IsRecord.{steps, hears}
 use Rattle.rws_record.specs.Record.GoesOn.{stays, then as goes_then}
-use Rattle.rws_record.specs.Outputs.{actions_of, outs_of}
+use Rattle.rws_record.specs.Outputs.{outputs_of, outs_of}
 use Rattle.rws_record.proofs.RecordLemmas.{contained}
 use Rattle.rws_record.proofs.StepLemmas.{rests_owing_nothing}
 use Rattle.rws_links.specs.declared.numbered.NumberedLink.{NumberedLink}
@@ -41,7 +41,7 @@ goes_nowhere config past k is = record {
   is = is;
   number = refl;
   more = [];
-  given = sym (append-nil (actions_of k.number past));
+  given = sym (append-nil (outputs_of k.number past));
   waits = sym (append-nil k.outs);
 }
 
@@ -49,17 +49,17 @@ goes_nowhere config past k is = record {
 pub goes_on : (config : Config) (past : List Item) (old mid new : Kept) → (g : Goes config past old mid)
     → Tries config (next config g.reached) g.reached true mid new → Goes config past old new
 goes_on config past old mid new g went =
-    let gives : List Action = outs_of old.number went.item g.reached in
+    let gives : List Output = outs_of old.number went.item g.reached in
     record {
       reached = went.item ∷ g.reached;
       went_on = goes_then g.went_on went.is_due;
       is = record { mirrors = went.made.state; legal = steps g.is.legal went.is_due };
       number = went.made.number ∙ g.number;
       more = g.more ++ gives;
-      given = ap (λ (before : List Action). before ++ gives) g.given ∙ append_assoc (actions_of old.number past) g.more gives;
+      given = ap (λ (before : List Output). before ++ gives) g.given ∙ append_assoc (outputs_of old.number past) g.more gives;
       waits = went.made.outs
           ∙ ap (λ (n : ℕ). mid.outs ++ outs_of n went.item g.reached) g.number
-          ∙ ap (λ (before : List Action). before ++ gives) g.waits
+          ∙ ap (λ (before : List Output). before ++ gives) g.waits
           ∙ append_assoc old.outs g.more gives;
     }
 
@@ -386,6 +386,6 @@ turned config past (Some item) old mid new result told settles = by_result resul
       stands = s.stands;
       number = s.number ∙ told.0;
       more = s.more;
-      given = ap (λ (n : ℕ). actions_of n s.reached) (sym told.0) ∙ s.given ∙ ap (λ (n : ℕ). actions_of n (item ∷ past) ++ s.more) told.0;
-      waits = s.waits ∙ ap (λ (outs : List Action). outs ++ s.more) told.1;
+      given = ap (λ (n : ℕ). outputs_of n s.reached) (sym told.0) ∙ s.given ∙ ap (λ (n : ℕ). outputs_of n (item ∷ past) ++ s.more) told.0;
+      waits = s.waits ∙ ap (λ (outs : List Output). outs ++ s.more) told.1;
     }

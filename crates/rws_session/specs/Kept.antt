@@ -1,7 +1,7 @@
 -- For which records a session stands.
 use Rattle.std.specs.Prelude.{◌≡◌, ℕ, Bool, true, false, List, [], ◌∷◌, None, map}
-use Rattle.rws_board.specs.declared.action.Action.{Action}
 use Rattle.rws_config.specs.declared.config.Config.{Config}
+use Rattle.rws_record.specs.declared.output.Output.{Output}
 use Rattle.rws_record.specs.Item.{Item}
 use Rattle.rws_record.specs.Rules.{next}
 use Rattle.rws_record.specs.Values.{asking, is_over, links as links_of}
@@ -13,7 +13,7 @@ pub record Kept : Type 0 where
   -- the session's number
   pub number : ℕ
   -- what was given out and isn't fetched yet
-  pub outs : List Action
+  pub outs : List Output
   pub state : State
 
 -- Between any two steps a session keeps what it is to keep of a record that can come about.
@@ -52,7 +52,7 @@ numbers k = map number_of k.state.links
 -- what lasts of a session where a call fails for want of memory: enough to close it
 pub record Lasting : Type 0 where
   pub number : ℕ
-  pub outs : List Action
+  pub outs : List Output
   pub links : List ℕ
   pub over : Bool
   pub farewell : List ℕ
@@ -73,7 +73,7 @@ abbrev pub Holds : Kept → Kept → Type 0
 Holds old new = lasting new ≡ lasting old
 
 -- what lasts of a session that stands for a record
-abbrev pub lasting_of : Config → ℕ → List Action → List Item → Lasting
+abbrev pub lasting_of : Config → ℕ → List Output → List Item → Lasting
 lasting_of config number outs past = record {
   number = number;
   outs = outs;

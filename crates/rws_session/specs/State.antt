@@ -2,6 +2,7 @@
 use Rattle.std.specs.Prelude.{ℕ, Bool, List, ◌∷◌, map, Option, Some, None}
 use Rattle.rws_wire.specs.Packets.{spelling}
 use Rattle.rws_msgs.specs.ErrLayout.{err_bytes}
+use Rattle.rws_gtid.specs.declared.Gtid.{Gtid}
 use Rattle.rws_native.specs.declared.login.Login.{Login}
 use Rattle.rws_front.specs.Fronting.{Fronting}
 use Rattle.rws_routing.specs.declared.routing.Routing.{Routing}
@@ -11,10 +12,10 @@ use Rattle.rws_commands.specs.declared.command.Command.{Command}
 use Rattle.rws_commands.specs.Statements.{Statements}
 use Rattle.rws_commands.specs.declared.proxy_error.ProxyError.TheVariants.{OutOfMemory}
 use Rattle.rws_record.specs.Item.{Item, Put}
-use Rattle.rws_record.specs.Item.Put.{Hands, Tells, Routes, Opens, LogsInto, Sends, Forgets, Drops, Closes}
+use Rattle.rws_record.specs.Item.Put.{Hands, Tells, Records, Routes, Opens, LogsInto, Sends, Forgets, Drops, Closes}
 use Rattle.rws_record.specs.Item.Tell.{Passes, Owns, Refuses}
 use Rattle.rws_record.specs.Record.{want_number}
-use Rattle.rws_record.specs.Values.{asking, banned, fronted, is_over, kept_on, links, login_of, now as reading, pending, reply_number, routing, sent_on, serials, statements, told_from, transaction}
+use Rattle.rws_record.specs.Values.{asking, banned, fronted, is_over, kept_on, links, login_of, now as reading, own, pending, reply_number, routing, sent_on, serials, statements, told_from, transaction}
 use Rattle.rws_record.specs.Rules.{owed}
 use Rattle.rws_commands.specs.Errors.{error_of}
 use Rattle.rws_links.specs.declared.numbered.NumberedLink.{NumberedLink}
@@ -42,8 +43,10 @@ pub record State : Type 0 where
   pub told_from : Option ℕ
   -- the number of the packet that the client gets next in the command's reply
   pub reply_number : ℕ
-  -- how far the command has come on its way to a server; what transaction is open, and where; and what the clock showed last
+  -- how far the command has come on its way to a server; the last commit that the session itself saw; what transaction is open, and
+  -- where; and what the clock showed last
   pub routing : Routing
+  pub own : Option Gtid
   pub transaction : Transaction
   pub now_ms : ℕ
   -- the worker was asked for the words of the pool, by which the pending command's target is found
@@ -60,6 +63,7 @@ pub record State : Type 0 where
 -- is opened in the call that finds the command's target: they never wait.
 abbrev pub erased : Put → Option Out
 erased (Hands packets) = Some (outs.Hand packets)
+erased (Records server gtid) = Some (outs.Record server gtid)
 erased Routes = None
 erased (Opens link server login) = None
 erased (LogsInto link packets) = Some (outs.LogIn link packets)
@@ -95,6 +99,7 @@ state_of config past = record {
   told_from = told_from past;
   reply_number = reply_number past;
   routing = routing config past;
+  own = own past;
   transaction = transaction config past;
   now_ms = reading past;
   asking = asking past;

@@ -1,10 +1,13 @@
 -- How the steps of a session change what it keeps.
-use Rattle.std.specs.Prelude.{◌≡◌, ◌&&◌, ℕ, ◌+◌, nat_lt, Bool, true, false, List, [], ◌∷◌, ◌++◌, length, map, not, Option, Some, None, is_some, is_none, if◌then◌else◌}
+use Rattle.std.specs.Prelude.{◌≡◌, ◌&&◌, ℕ, ◌+◌, Bool, true, false, List, [], ◌∷◌, ◌++◌, map, not, Option, Some, None, is_some, is_none, if◌then◌else◌}
 use Rattle.rws_wire.specs.Packets.{spelling, number_behind}
 use Rattle.rws_wire.specs.declared.close_reason.CloseReason.{CloseReason}
 use Rattle.rws_wire.specs.declared.drop_cause.DropCause.{DropCause}
 use Rattle.rws_wire.specs.declared.drop_cause.DropCause.TheVariants.{End, Kept as IsKept, SessionDiffers}
 use Rattle.rws_msgs.specs.ErrLayout.{err_bytes}
+use Rattle.rws_gtid.specs.declared.Gtid.{Gtid}
+use Rattle.rws_causal.specs.declared.causal.Causal.{Causal}
+use Rattle.rws_causal.specs.Commits.{commit_in}
 use Rattle.rws_native.specs.declared.login.Login.{Login}
 use Rattle.rws_front.specs.declared.step.FrontStep.{FrontStep}
 use Rattle.rws_front.specs.declared.step.FrontStep.TheVariants as fronts
@@ -14,24 +17,31 @@ use Rattle.rws_reply.specs.declared.kind.Outcome.{Outcome}
 use Rattle.rws_reply.specs.declared.kind.Outcome.TheVariants.{Done, Failed}
 use Rattle.rws_reply.specs.declared.kind.Progress.{Progress}
 use Rattle.rws_reply.specs.declared.kind.Progress.TheVariants.{More, Whole}
+use Rattle.rws_reply.specs.declared.role.Role.{Role}
+use Rattle.rws_reply.specs.declared.role.Role.TheVariants.{Ok as OkRole}
 use Rattle.rws_link.specs.declared.step.LinkStep.{LinkStep}
 use Rattle.rws_link.specs.declared.step.LinkStep.TheVariants as steps
-use Rattle.rws_board.specs.declared.action.Action.{Action}
+use Rattle.rws_pool.specs.declared.words.PoolWords.{PoolWords}
 use Rattle.rws_board.specs.declared.action.Action.TheVariants as actions
 use Rattle.rws_route.specs.declared.destination.Target.{Target}
+use Rattle.rws_routing.specs.declared.routing.Check.{Check}
+use Rattle.rws_routing.specs.declared.routing.Check.TheVariants.{Wait, Probe}
 use Rattle.rws_routing.specs.Routings.{finds_late, lost, new_routing, routed, server_in, stopped, ticked}
 use Rattle.rws_trx.specs.declared.transaction.Transaction.{Transaction}
 use Rattle.rws_trx.specs.OnLinks.{added, no_transaction, status_of}
 use Rattle.rws_config.specs.declared.config.Config.{Config}
 use Rattle.rws_commands.specs.declared.command.Command.{Command}
 use Rattle.rws_commands.specs.declared.proxy_error.ProxyError.{ProxyError}
-use Rattle.rws_commands.specs.declared.proxy_error.ProxyError.TheVariants.{NoPrimary}
+use Rattle.rws_commands.specs.declared.proxy_error.ProxyError.TheVariants.{NoPrimary, PrimaryBehind}
 use Rattle.rws_commands.specs.declared.judged.Judged.{Judged}
-use Rattle.rws_record.specs.Item.{Ending, Item, Put}
+use Rattle.rws_record.specs.declared.output.Output.{Output}
+use Rattle.rws_record.specs.declared.output.Output.TheVariants.{Act, Record}
+use Rattle.rws_record.specs.Item.{Ending, Item, Purpose, Put}
 use Rattle.rws_record.specs.Item.Item.{Puts}
 use Rattle.rws_commands.specs.declared.judged.Judged.TheVariants.{Serves}
 use Rattle.rws_record.specs.Item.Put.{Drops, Opens}
-use Rattle.rws_record.specs.Rules.{after_command, after_connecting, after_loss_by, after_preparing, after_route, again_by, differing, drop_cause, form_of, goes_if, is_link, is_loss, is_read_only, is_replayable, Loss, loss_by, next, not_replayable, recording_by, unasked}
+use Rattle.rws_record.specs.Item.Purpose.{Waits, Probes}
+use Rattle.rws_record.specs.Rules.{after_check, after_command, after_connecting, after_loss_by, after_preparing, after_route, again_by, differing, drop_cause, form_of, goes_if, is_link, is_loss, is_read_only, is_replayable, Loss, loss_by, next, not_replayable, recording_by, recording_commit, unasked}
 use Rattle.rws_record.specs.Record.{GoesOn}
 use Rattle.rws_commands.specs.Errors.{error_of}
 use Rattle.rws_commands.specs.declared.history.HistoryEntry.{HistoryEntry}
@@ -41,14 +51,14 @@ use Rattle.rws_commands.specs.Judging.{judged}
 use Rattle.rws_commands.specs.Statements.{Statements, failed_if, is_full, is_otherwise, last_serial, next_handle, no_statements, played, swept_if, taken_as, unlinked}
 use Rattle.rws_msgs.specs.declared.prepare_ok.PrepareOk.{PrepareOk}
 use Rattle.rws_trx.specs.Transactions.{is_open}
-use Rattle.rws_record.specs.Outputs.{actions_of, close_bytes, own_ok, outs_of}
+use Rattle.rws_record.specs.Outputs.{close_bytes, outputs_of, own_ok, outs_of}
 use Rattle.rws_commands.specs.Commands.{asked_under, class_of_command, id_for, is_session, keeps}
-use Rattle.rws_record.specs.Values.{answered_by, answered_in, class_by_pending, ends_by, length_by, login_by, or_link, preamble, prepares as prepares_one, unless_link}
+use Rattle.rws_record.specs.Values.{answered_by, answered_in, check_for, class_by_pending, ends_by, heard_check, later_of, length_by, login_by, or_link, prepares as prepares_one, probe_command, unless_link, wait_command}
 use Rattle.rws_links.specs.declared.coming.Coming.{Coming}
 use Rattle.rws_links.specs.declared.history.Recording.{Recording}
 use Rattle.rws_links.specs.declared.history.Recording.TheVariants as recordings
 use Rattle.rws_links.specs.declared.numbered.Asked.{Asked}
-use Rattle.rws_links.specs.declared.numbered.Asked.TheVariants.{Preamble, Entry as AnEntry, Command as ACommand}
+use Rattle.rws_links.specs.declared.numbered.Asked.TheVariants.{Preamble, Entry as AnEntry, Command as ACommand, Wait as AWait, Probe as AProbe}
 use Rattle.rws_links.specs.declared.numbered.NumberedLink.{NumberedLink}
 use Rattle.rws_links.specs.declared.finding.Due.{Due}
 use Rattle.rws_links.specs.Finding.{first_due, first_to}
@@ -78,6 +88,7 @@ fresh number front login links reading = record {
     told_from = None;
     reply_number = 0;
     routing = new_routing;
+    own = None;
     transaction = no_transaction;
     now_ms = reading;
     asking = false;
@@ -94,15 +105,16 @@ fresh number front login links reading = record {
 abbrev pub owes : List Put → State → State
 owes puts s = record s { owed = map erased puts ++ s.owed }
 
--- what is done outside for something that was owed
-abbrev pub action_of : ℕ → Out → Action
-action_of session (outs.Pass number link payload ending recording) = actions.ToClient session (spelling number payload)
-action_of session (outs.Hand packets) = actions.ToClient session packets
-action_of session (outs.LogIn link packets) = actions.ToLink link packets
-action_of session (outs.Own number status) = actions.ToClient session (spelling number (own_ok status))
-action_of session (outs.Refuse number error) = actions.ToClient session (spelling number (err_bytes (error_of error)))
-action_of session (outs.Drop link cause) = actions.Drop link cause
-action_of session (outs.Close reason) = actions.Close session reason
+-- what is given out for something that was owed
+abbrev pub output_of : ℕ → Out → Output
+output_of session (outs.Pass number link payload ending recording) = Act (actions.ToClient session (spelling number payload))
+output_of session (outs.Hand packets) = Act (actions.ToClient session packets)
+output_of session (outs.LogIn link packets) = Act (actions.ToLink link packets)
+output_of session (outs.Own number status) = Act (actions.ToClient session (spelling number (own_ok status)))
+output_of session (outs.Refuse number error) = Act (actions.ToClient session (spelling number (err_bytes (error_of error))))
+output_of session (outs.Record server gtid) = Record server gtid
+output_of session (outs.Drop link cause) = Act (actions.Drop link cause)
+output_of session (outs.Close reason) = Act (actions.Close session reason)
 
 -- the session's other links are given up
 abbrev pub others_dropped : (keeping : Bool) → ℕ → List NumberedLink → List (Option Out)
@@ -151,11 +163,19 @@ passed number link payload (Some ending) recording s =
     (notes link recording s)
 passed number link payload None recording s = record s { told_from = Some link; reply_number = number_behind number payload }
 
--- an error of the proxy's own went to the client: where there was no primary it is the pending command's answer
+-- the pending command was answered by an error of the proxy's own
+abbrev pub ends_unsent : State → State
+ends_unsent s = record s { pending = None; routing = stopped s.routing; statements = failed_if (prepares_one s.pending) s.statements }
+
+-- an error of the proxy's own went to the client: where there was no primary, or that is behind, it is the pending command's answer
 abbrev pub refused : ProxyError → State → State
-refused NoPrimary s =
-    record s { pending = None; routing = stopped s.routing; statements = failed_if (prepares_one s.pending) s.statements }
+refused NoPrimary s = ends_unsent s
+refused (PrimaryBehind wanted found) s = ends_unsent s
 refused _ s = s
+
+-- the words are told of a commit, which is the last one that the session itself saw, if it is later
+abbrev pub notes_commit : Gtid → State → State
+notes_commit gtid s = record s { own = Some (later_of gtid s.own) }
 
 -- the link that the pending command is to go on
 abbrev pub going : State → Option ℕ
@@ -197,12 +217,13 @@ after_out (outs.LogIn link packets) s = s
 after_out (outs.Pass number link payload ending recording) s = passed number link payload ending recording s
 after_out (outs.Own number status) s = s
 after_out (outs.Refuse number error) s = refused error s
+after_out (outs.Record server gtid) s = notes_commit gtid s
 after_out (outs.Drop link cause) s = gives_up link cause s
 after_out (outs.Close reason) s = ends s
 
 -- something goes out
 abbrev pub gives : Out → Kept → Kept
-gives out k = record k { outs = k.outs ++ action_of k.number out ∷ []; state = after_out out k.state }
+gives out k = record k { outs = k.outs ++ output_of k.number out ∷ []; state = after_out out k.state }
 
 -- what the clock shows is heard
 abbrev pub ticks : (wait reading : ℕ) → State → State
@@ -214,12 +235,16 @@ ticks wait reading s = record s { now_ms = reading; routing = ticked wait readin
 abbrev pub is_unrouted : State → Bool
 is_unrouted s = is_some s.pending && (is_none (going s) && not s.routing.waits)
 
--- the command's target was found; `link` is the session's link to its server
-abbrev pub routes_in : Target → (link : Option ℕ) → (next : ℕ) → State → State
-routes_in found link next s = record s { asking = false; routing = routed found link next s.now_ms s.routing }
+-- what the server of a target is asked before the pending command, by these words
+abbrev pub first_check : Config → Target → PoolWords → State → Option Check
+first_check config found words s = check_for config.causal_reads (class_by_pending s.pending) s.own found words
 
-abbrev pub routes : Target → (link : Option ℕ) → (next : ℕ) → Kept → Kept
-routes found link next k = record k { state = routes_in found link next k.state }
+-- the command's target was found; `link` is the session's link to its server, which is asked `check` first
+abbrev pub routes_in : Target → Option Check → (link : Option ℕ) → (next : ℕ) → State → State
+routes_in found check link next s = record s { asking = false; routing = routed found check link next s.now_ms s.routing }
+
+abbrev pub routes : Target → Option Check → (link : Option ℕ) → (next : ℕ) → Kept → Kept
+routes found check link next k = record k { state = routes_in found check link next k.state }
 
 -- what is to be given out for it
 abbrev pub puts_for : Config → Target → (next : ℕ) → State → List Put
@@ -232,7 +257,7 @@ opens_in link server login s = record s { links = without_number link s.links ++
 
 abbrev pub opens : (link server : ℕ) → Login → Kept → Kept
 opens link server login k =
-    record k { outs = k.outs ++ actions.Open link server k.number ∷ []; state = opens_in link server login k.state }
+    record k { outs = k.outs ++ Act (actions.Open link server k.number) ∷ []; state = opens_in link server login k.state }
 
 -- where the client's login is known
 abbrev pub OpensLink : (link server : ℕ) → Option Login → Kept → Kept → (opened : Bool) → Type 0
@@ -269,14 +294,23 @@ found_due s = first_due (unsent s) (last_serial s.statements.history) s.links
 -- something goes out on a link; these are the links then
 abbrev pub sends_on : ℕ → List ℕ → List NumberedLink → Kept → Kept
 sends_on link payload links k = record k {
-  outs = k.outs ++ actions.ToLink link (spelling 0 payload) ∷ [];
+  outs = k.outs ++ Act (actions.ToLink link (spelling 0 payload)) ∷ [];
   state = record k.state { links = links };
 }
 
--- a link is prepared, or nothing went out
-abbrev pub SendsPreamble : ℕ → Bool → Kept → Kept → Type 0
-SendsPreamble link true old new = new ≡ sends_on link preamble new.state.links old
-SendsPreamble link false old new = new ≡ record old { state = record old.state { links = new.state.links } }
+-- a statement of the proxy's own goes out, or nothing does
+abbrev pub SendsOwn : ℕ → (payload : List ℕ) → Bool → Kept → Kept → Type 0
+SendsOwn link payload true old new = new ≡ sends_on link payload new.state.links old
+SendsOwn link payload false old new = new ≡ record old { state = record old.state { links = new.state.links } }
+
+-- that by which the link's server is asked before a read
+abbrev pub check_payload : (seconds : ℕ) → Check → List ℕ
+check_payload seconds (Wait gtid) = wait_command gtid seconds
+check_payload seconds (Probe gtid) = probe_command
+
+abbrev pub check_purpose : (seconds : ℕ) → Check → Purpose
+check_purpose seconds (Wait gtid) = Waits gtid seconds
+check_purpose seconds (Probe gtid) = Probes gtid
 
 -- an entry of the history goes out, or nothing does
 abbrev pub SendsEntry : ℕ → Option HistoryEntry → Bool → Kept → Kept → Type 0
@@ -309,7 +343,7 @@ id_in link command s = id_for link command.body s.statements.table.links
 
 abbrev pub sends : ℕ → Command → List NumberedLink → Kept → Kept
 sends link command links k = record k {
-  outs = k.outs ++ map (λ payload. actions.ToLink link (spelling 0 payload)) (asked_under (id_in link command k.state) command.body);
+  outs = k.outs ++ map (λ payload. Act (actions.ToLink link (spelling 0 payload))) (asked_under (id_in link command k.state) command.body);
   state = sends_in link command links k.state;
 }
 
@@ -390,21 +424,38 @@ owes_played link statement named More behind = []
 owes_played link statement named (Whole (Done status)) behind = differing link (is_otherwise statement named) behind
 owes_played link statement named (Whole (Failed code)) behind = Drops link SessionDiffers ∷ []
 
--- what follows on a payload of a reply, by what was asked
-abbrev pub owes_part : ℕ → Option Asked → (form : List ℕ) → (named : Option PrepareOk) → Progress → (behind : Bool) → (number : ℕ) → (Outcome → Recording) → List (Option Out)
-owes_part link (Some ACommand) form named progress behind number recording = owes_reply link form named progress behind number recording
-owes_part link (Some (AnEntry serial statement)) form named progress behind number recording = map erased (owes_played link statement named progress behind)
-owes_part link (Some Preamble) form named progress behind number recording = map erased (after_preparing link progress behind)
-owes_part link None form named progress behind number recording = []
+-- what follows on a payload of a reply, by what was asked; `checked` is what comes next of a read, where the reply says that
+abbrev pub owes_part : ℕ → Option Asked → (form : List ℕ) → (named : Option PrepareOk) → (checked : Option Causal) → Progress → (behind : Bool) → (number : ℕ) → (Outcome → Recording) → List (Option Out)
+owes_part link (Some ACommand) form named checked progress behind number recording = owes_reply link form named progress behind number recording
+owes_part link (Some (AnEntry serial statement)) form named checked progress behind number recording = map erased (owes_played link statement named progress behind)
+owes_part link (Some Preamble) form named checked progress behind number recording = map erased (after_preparing link progress behind)
+owes_part link (Some AWait) form named checked progress behind number recording = map erased (after_check link checked behind number)
+owes_part link (Some (AProbe gtid)) form named checked progress behind number recording = map erased (after_check link checked behind number)
+owes_part link None form named checked progress behind number recording = []
 
 -- what follows on what a link says, where the next statement's handle is this
-abbrev pub owes_for : (handle : ℕ) → ℕ → LinkStep → Option Asked → (named : Option PrepareOk) → (number : ℕ) → (Outcome → Recording) → List (Option Out)
-owes_for handle link (steps.Part payload role progress next behind) asked named number recording =
-    owes_part link asked (form_of handle role payload) named progress behind number recording
-owes_for handle link (steps.Lost cause) asked named number recording = Some (outs.Drop link (drop_cause cause)) ∷ []
-owes_for handle link (steps.Send packets) asked named number recording = Some (outs.LogIn link packets) ∷ []
-owes_for handle link steps.LoggedIn asked named number recording = []
-owes_for handle link steps.Idle asked named number recording = []
+abbrev pub owes_for : (handle : ℕ) → ℕ → LinkStep → Option Asked → (named : Option PrepareOk) → (checked : Option Causal) → (number : ℕ) → (Outcome → Recording) → List (Option Out)
+owes_for handle link (steps.Part payload role progress next behind) asked named checked number recording =
+    owes_part link asked (form_of handle role payload) named checked progress behind number recording
+owes_for handle link (steps.Lost cause) asked named checked number recording = Some (outs.Drop link (drop_cause cause)) ∷ []
+owes_for handle link (steps.Send packets) asked named checked number recording = Some (outs.LogIn link packets) ∷ []
+owes_for handle link steps.LoggedIn asked named checked number recording = []
+owes_for handle link steps.Idle asked named checked number recording = []
+
+-- the commit that an OK names, by what was asked: that to the preamble says nothing of a command
+abbrev pub commit_asked : (domain : ℕ) → Option Asked → List ℕ → Option Gtid
+commit_asked domain None payload = None
+commit_asked domain (Some Preamble) payload = None
+commit_asked domain (Some asked) payload = commit_in domain payload
+
+abbrev pub commit_as : (domain : ℕ) → Role → List ℕ → Option Asked → Option Gtid
+commit_as domain OkRole payload asked = commit_asked domain asked payload
+commit_as domain _ payload asked = None
+
+-- and that what a link says tells of
+abbrev pub commit_said : (domain : ℕ) → LinkStep → Option Asked → Option Gtid
+commit_said domain (steps.Part payload role progress next behind) asked = commit_as domain role payload asked
+commit_said domain _ asked = None
 
 -- the transaction that was open ends with a reply that ended so on a link
 abbrev pub ends_in : ℕ → State → Outcome → Bool
@@ -425,6 +476,8 @@ abbrev pub ended_in : ℕ → Outcome → Option Asked → (ends : Outcome → B
 ended_in link outcome (Some ACommand) ends named s = swept_if (ends outcome) s
 ended_in link outcome (Some (AnEntry serial statement)) ends named s = played_if link serial statement named outcome s
 ended_in link outcome (Some Preamble) ends named s = s
+ended_in link outcome (Some AWait) ends named s = s
+ended_in link outcome (Some (AProbe gtid)) ends named s = s
 ended_in link outcome None ends named s = s
 
 abbrev pub heard_in_by : ℕ → Option Outcome → Option Asked → (ends : Outcome → Bool) → (named : Option PrepareOk) → Statements → Statements
@@ -435,21 +488,28 @@ heard_in_by link None asked ends named s = s
 abbrev pub heard_in : ℕ → LinkStep → Option Asked → (ends : Outcome → Bool) → (named : Option PrepareOk) → Statements → Statements
 heard_in link said asked ends named s = heard_in_by link (outcome_of said) asked ends named s
 
--- it is heard: the server may be banned, and statements may have an id there or leave
+-- it is heard: the server may be banned, statements may have an id there or leave, and the command go on or back to the primary
 abbrev pub hears_coming : Coming → State → State
 hears_coming coming s = record s {
   banned = bans coming.said coming.asked coming.named coming.server s.banned;
   statements = heard_in coming.link coming.said coming.asked (ends_in coming.link s) coming.named s.statements;
+  routing = heard_check coming.checked s.routing;
 }
 
 -- and what follows on it is owed; the history has room for so many entries
 abbrev pub owes_coming : (limit handle : ℕ) → Coming → State → State
 owes_coming limit handle coming s = record s {
-  owed = owes_for handle coming.link coming.said coming.asked coming.named s.reply_number (recording_in limit s) ++ s.owed;
+  owed = owes_for handle coming.link coming.said coming.asked coming.named coming.checked s.reply_number (recording_in limit s) ++ s.owed;
 }
 
-abbrev pub takes_coming : (limit : ℕ) → Coming → State → State
-takes_coming limit coming s = owes_coming limit (next_handle s.statements) coming (hears_coming coming s)
+-- a commit of a server is told of before all else
+abbrev pub owes_commit : (server : ℕ) → Option Gtid → State → State
+owes_commit server commit s = owes (recording_commit server commit) s
+
+abbrev pub takes_coming : Config → Coming → State → State
+takes_coming config coming s =
+    owes_commit coming.server (commit_said config.gtid_domain coming.said coming.asked)
+    (owes_coming config.history_limit (next_handle s.statements) coming (hears_coming coming s))
 
 -- Tries
 
@@ -493,8 +553,8 @@ pub record Goes (config : Config) (past : List Item) (old new : Kept) : Type 0 w
   pub went_on : GoesOn config past reached
   pub is : Is config new reached
   pub number : new.number ≡ old.number
-  pub more : List Action
-  pub given : actions_of old.number reached ≡ actions_of old.number past ++ more
+  pub more : List Output
+  pub given : outputs_of old.number reached ≡ outputs_of old.number past ++ more
   pub waits : new.outs ≡ old.outs ++ more
 
 -- and now it rests, or asks the worker
@@ -506,6 +566,6 @@ pub record Rests (config : Config) (past : List Item) (old new : Kept) (asks : B
 pub record Stops (config : Config) (past : List Item) (old new : Kept) : Type 0 where
   pub reached : List Item
   pub went_on : GoesOn config past reached
-  pub more : List Action
-  pub given : actions_of old.number reached ≡ actions_of old.number past ++ more
+  pub more : List Output
+  pub given : outputs_of old.number reached ≡ outputs_of old.number past ++ more
   pub lasts : lasting new ≡ lasting_of config old.number (old.outs ++ more) reached

@@ -2,18 +2,19 @@
 use Rattle.std.specs.Prelude.{◌≡◌, ℕ, Bool, true, false, ◌&&◌, List, [], ◌∷◌, ◌++◌, Option, Some, None, if◌then◌else◌}
 use Rattle.rws_link.specs.Stepping.{is_new}
 use Rattle.rws_config.specs.declared.config.Config.{Config}
-use Rattle.rws_board.specs.declared.action.Action.{Action}
 use Rattle.rws_board.specs.declared.action.Action.TheVariants as actions
 use Rattle.rws_native.specs.declared.login.Login.{Login}
 use Rattle.rws_pool.specs.declared.words.PoolWords.{PoolWords}
 use Rattle.rws_select.specs.declared.selector.Load.{Load}
+use Rattle.rws_record.specs.declared.output.Output.{Output}
+use Rattle.rws_record.specs.declared.output.Output.TheVariants.{Act}
 use Rattle.rws_record.specs.Item.{Item, Put}
 use Rattle.rws_record.specs.Item.Item.{ClientBytes, LinkReady, LinkBytes, ClientGone, LinkLost, Ticks, Routed, Puts}
 use Rattle.rws_record.specs.Item.Put.{Opens as Opened}
 use Rattle.rws_record.specs.Values.{contains, is_over, linked, links}
 use Rattle.rws_record.specs.Rules.{found_in, owed}
 use Rattle.rws_record.specs.Record.{GoesOn}
-use Rattle.rws_record.specs.Outputs.{actions_of}
+use Rattle.rws_record.specs.Outputs.{outputs_of}
 use Rattle.rws_session.specs.declared.input.SessionInput.{SessionInput}
 use Rattle.rws_session.specs.declared.input.SessionInput.TheVariants as inputs
 use Rattle.rws_session.specs.Kept.{Is, Kept, StandsOr, lasting, lasting_of}
@@ -43,8 +44,8 @@ pub record Settles (config : Config) (start : List Item) (old new : Kept) (asks 
   pub went_on : GoesOn config start reached
   pub stands : StandsOr asks config new reached
   pub number : new.number ≡ old.number
-  pub more : List Action
-  pub given : actions_of old.number reached ≡ actions_of old.number start ++ more
+  pub more : List Output
+  pub given : outputs_of old.number reached ≡ outputs_of old.number start ++ more
   pub waits : new.outs ≡ old.outs ++ more
 
 -- the worker's answer: the words of the pool, the loads of its links, and the number that the next link has
@@ -57,7 +58,7 @@ pub record Opens (config : Config) (answer : Item) (next : ℕ) (past : List Ite
   pub login : Login
   pub is : Is config new (Puts (Opened next server login) ∷ answer ∷ past)
   pub number : new.number ≡ old.number
-  pub waits : new.outs ≡ old.outs ++ actions.Open next server old.number ∷ []
+  pub waits : new.outs ≡ old.outs ++ Act (actions.Open next server old.number) ∷ []
 
 pub record TakesIn (config : Config) (answer : Item) (past : List Item) (old new : Kept) : Type 0 where
   pub is : Is config new (answer ∷ past)
@@ -81,8 +82,8 @@ Turns config None past old new true = ⊥
 pub record BreaksOff (config : Config) (start : List Item) (old new : Kept) : Type 0 where
   pub reached : List Item
   pub went_on : GoesOn config start reached
-  pub more : List Action
-  pub given : actions_of old.number reached ≡ actions_of old.number start ++ more
+  pub more : List Output
+  pub given : outputs_of old.number reached ≡ outputs_of old.number start ++ more
   pub lasts : lasting new ≡ lasting_of config old.number (old.outs ++ more) reached
 
 -- where nothing is heard, no memory is wanted

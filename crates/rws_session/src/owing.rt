@@ -1,6 +1,7 @@
 //! What a session owes: it is decided on, and given out in later steps of the same turn.
 
 use rws_commands::{Ending, ProxyError};
+use rws_gtid::Gtid;
 use rws_links::Recording;
 use rws_wire::{CloseReason, DropCause, Text};
 
@@ -34,6 +35,11 @@ pub(crate) enum Out {
     Refuse {
         number: u8,
         error: ProxyError,
+    },
+    /// The words of the pool are told of a commit, which the server at this index made.
+    Record {
+        server: u8,
+        gtid: Gtid,
     },
     /// A link is given up.
     Drop {

@@ -7,6 +7,7 @@ ghost use Rattle.rws_session.specs.State.{numbered};
 
 mod answering;
 mod beginning;
+mod checking;
 mod giving;
 mod hearing;
 mod reading;
@@ -15,11 +16,12 @@ mod taking;
 
 use crate::SessionInput;
 use crate::owing::Out;
-use rws_board::Action;
 use rws_commands::{ClassedCommand, Statements};
 use rws_config::Config;
 use rws_front::Front;
+use rws_gtid::Gtid;
 use rws_links::{Count, LinkLogin, LinkTable};
+use rws_record::Output;
 use rws_routing::Routing;
 use rws_trx::Transaction;
 use rws_wire::Text;
@@ -32,8 +34,9 @@ use std::mem;
 ///
 /// It lets the client in, answers what it can by itself, passes commands on and replies back, and gives up with a reason where it
 /// can't go on. A command goes where its class and the words of the pool say, on one link to each server; while a transaction is open
-/// all go on its link, and one that may change anything keeps the session on its link from then on. Its links repeat the client's login at their servers, and play the commands
-/// that have set something in the session. What it gives out waits to be fetched by [`Session::next_out`].
+/// all go on its link, and one that may change anything keeps the session on its link from then on. Before a read that is to see a
+/// commit its server is asked for that, unless it is known to have it. Its links repeat the client's login at their servers, and play
+/// the commands that have set something in the session. What it gives out waits to be fetched by [`Session::next_out`].
 ///
 /// Where memory is wanting in a turn the session ends: what it gave out is fetched, then its client is told by
 /// [`Session::farewell`] and the session closed, unless it is over, and the links that it has left are given up, which
@@ -43,7 +46,7 @@ pub struct Session {
     alloc: Global,
     number: u32,
     /// What was given out and isn't fetched yet.
-    outs: VecDeque<Action>,
+    outs: VecDeque<Output>,
     /// The client's side.
     front: Front,
     /// The login that its links repeat, once it has logged in.
@@ -68,6 +71,8 @@ pub struct Session {
     reply_number: u8,
     /// How far it has come on its way to a server.
     routing: Routing,
+    /// The last commit that the session itself saw.
+    own: Option<Gtid>,
     /// Whether autocommit is on, and what transaction is open, and on which link, as the replies said that speak of it.
     transaction: Transaction,
     /// What the clock showed last, in milliseconds.
@@ -105,6 +110,7 @@ impl Model for Session {
         told_from = s.told_from;
         reply_number = s.reply_number;
         routing = s.routing;
+        own = s.own;
         transaction = s.transaction;
         now_ms = s.now_ms;
         asking = s.asking;
@@ -173,9 +179,9 @@ impl Session {
     }
 
     /// The oldest output that isn't fetched yet.
-    pub fn next_out(&mut self) -> Option<Action>
+    pub fn next_out(&mut self) -> Option<Output>
         ensures fetched { MatchOption result ((self.old.outs ≡ []) × (self.new ≡ self.old))
-            (λ action. (self.old.outs ≡ action ∷ self.new.outs) × (self.new ≡ record self.old { outs = self.new.outs })) }
+            (λ output. (self.old.outs ≡ output ∷ self.new.outs) × (self.new ≡ record self.old { outs = self.new.outs })) }
         ensures stands { (config : Config) (past : List Item) → Stands config self.old past → Stands config self.new past }
     {
         self.outs.pop_front()

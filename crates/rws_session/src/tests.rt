@@ -9,6 +9,7 @@ use super::*;
 use rws_board::Action;
 use rws_config::{COMMAND_BYTES, Config, FLOOD_ROOM, built_in};
 use rws_pool::{PoolWords, Round, Seen, State};
+use rws_record::Output;
 use rws_select::{Load, Selector};
 use rws_wire::Text;
 use std::alloc::{AllocError, Global};
@@ -70,19 +71,23 @@ impl Given {
         self.told.clear();
         self.sent.clear();
         for count in 0..u8::MAX {
-            let Some(action) = session.next_out() else {
+            let Some(output) = session.next_out() else {
                 self.count = count;
                 return Ok(());
             };
-            self.add(action)?;
+            self.add(output)?;
         }
         Err(AllocError)
     }
 
-    fn add(&mut self, action: Action) -> Result<(), AllocError> {
-        match action {
-            Action::ToClient { session: _, bytes } => self.told.extend_from_slice(bytes.as_slice()),
-            Action::ToLink { link: _, bytes } => self.sent.extend_from_slice(bytes.as_slice()),
+    fn add(&mut self, output: Output) -> Result<(), AllocError> {
+        match output {
+            Output::Act(Action::ToClient { session: _, bytes }) => {
+                self.told.extend_from_slice(bytes.as_slice())
+            }
+            Output::Act(Action::ToLink { link: _, bytes }) => {
+                self.sent.extend_from_slice(bytes.as_slice())
+            }
             _ => Ok(()),
         }
     }

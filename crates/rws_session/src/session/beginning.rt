@@ -118,6 +118,7 @@ impl Session {
             told_from: None,
             reply_number: 0,
             routing: Routing::new(),
+            own: None,
             transaction: Transaction::new(),
             now_ms,
             asking: false,

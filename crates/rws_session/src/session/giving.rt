@@ -3,23 +3,26 @@ ghost use Rattle.std.specs.Prelude.{◌≡◌, ◌∷◌, ◌++◌, ℕ, List, [
 ghost use Rattle.rws_wire.specs.Packets.{spelling, number_behind};
 ghost use Rattle.rws_wire.specs.declared.drop_cause.DropCause.TheVariants as causes;
 ghost use Rattle.rws_board.specs.declared.action.Action.TheVariants as actions;
-ghost use Rattle.rws_commands.specs.declared.proxy_error.ProxyError.TheVariants as errors;
 ghost use Rattle.rws_record.specs.Rules.{after_loss_by};
+ghost use Rattle.rws_record.specs.Values.{later_of};
+ghost use Rattle.rws_record.specs.declared.output.Output.TheVariants.{Act, Record};
 ghost use Rattle.rws_session.specs.declared.owing.Out.TheVariants as outs;
 ghost use Rattle.rws_session.specs.State.{erased};
 ghost use Rattle.rws_links.specs.declared.history.Recording.TheVariants as recordings;
 ghost use Rattle.rws_links.specs.Losses.{closing};
 ghost use Rattle.rws_session.specs.Kept.{Holds};
-ghost use Rattle.rws_session.specs.Steps.{ending_in, ends_reply, gives, leaves, loss_in, notes, refused, statements_behind};
+ghost use Rattle.rws_session.specs.Steps.{ending_in, ends_reply, ends_unsent, gives, leaves, loss_in, notes, refused, statements_behind};
 
 use crate::owing::Out;
 use crate::session::Session;
 use rws_board::Action;
 use rws_commands::{Ending, ProxyError};
+use rws_gtid::Gtid;
 use rws_links::{
     NumberedLink, Recording, answered_by, closing, is_link, is_loss, not_replayable, own_ok,
     prepares, sends_again,
 };
+use rws_record::Output;
 use rws_trx::Transaction;
 use rws_wire::{CloseReason, DropCause, Text, frame};
 use std::alloc::AllocError;
@@ -43,6 +46,7 @@ impl Session {
             } => self.pass(number, link, payload.as_slice(), ending, recording),
             Out::Own { number, status } => self.tell_own(number, &own_ok(status)),
             Out::Refuse { number, error } => self.refuse(number, error),
+            Out::Record { server, gtid } => self.record(server, gtid),
             Out::Drop { link, cause } => self.drop_link(link, cause),
             Out::Close { reason } => self.close(reason),
         }
@@ -53,11 +57,10 @@ impl Session {
         ensures ok { OnOk result (self.new ≡ gives (outs.Hand packets) self.old) }
         ensures err { OnErr result (Holds self.old self.new) }
     {
-        self.outs.push_back(Action::ToClient {
+        self.act(Action::ToClient {
             session: self.number,
             bytes: packets,
-        })?;
-        Ok(())
+        })
     }
 
     /// Sends packets of its login on a link as they are.
@@ -65,22 +68,40 @@ impl Session {
         ensures ok { OnOk result (self.new ≡ gives (outs.LogIn link packets) self.old) }
         ensures err { OnErr result (Holds self.old self.new) }
     {
-        self.outs.push_back(Action::ToLink {
+        self.act(Action::ToLink {
             link,
             bytes: packets,
-        })?;
+        })
+    }
+
+    /// Something is to be done outside.
+    pub(super) fn act(&mut self, action: Action) -> Result<(), AllocError>
+        ensures ok { OnOk result (self.new ≡ record self.old { outs = self.old.outs ++ Act action ∷ [] }) }
+        ensures err { OnErr result (Holds self.old self.new) }
+    {
+        self.outs.push_back(Output::Act(action))?;
+        Ok(())
+    }
+
+    /// The words of the pool are told of a commit that this server made; the session itself has seen it.
+    fn record(&mut self, server: u8, gtid: Gtid) -> Result<(), AllocError>
+        ensures ok { OnOk result (self.new ≡ gives (outs.Record server gtid) self.old) }
+        ensures err { OnErr result (Holds self.old self.new) }
+    {
+        self.outs.push_back(Output::Record { server, gtid })?;
+        self.own = Some(later_of(gtid, self.own));
         Ok(())
     }
 
     /// Tells the client a payload, in packets from this number on. The number behind them.
     fn tell(&mut self, number: u8, payload: &[u8]) -> Result<u8, AllocError>
-        ensures told { OnOk result (self.new ≡ record self.old { outs = self.old.outs ++ actions.ToClient self.old.number (spelling number payload.now) ∷ [] }) }
+        ensures told { OnOk result (self.new ≡ record self.old { outs = self.old.outs ++ Act (actions.ToClient self.old.number (spelling number payload.now)) ∷ [] }) }
         ensures next { IfOk result (λ next. next ≡ number_behind number payload.now) }
         ensures err { OnErr result (Holds self.old self.new) }
     {
         let mut bytes = Vec::new(self.alloc);
         let next = frame(payload, number, &mut bytes)?;
-        self.outs.push_back(Action::ToClient {
+        self.act(Action::ToClient {
             session: self.number,
             bytes: Text::new(bytes),
         })?;
@@ -89,19 +110,20 @@ impl Session {
 
     /// Answers a command by a payload of the proxy's own.
     fn tell_own(&mut self, number: u8, payload: &[u8]) -> Result<(), AllocError>
-        ensures ok { OnOk result (self.new ≡ record self.old { outs = self.old.outs ++ actions.ToClient self.old.number (spelling number payload.now) ∷ [] }) }
+        ensures ok { OnOk result (self.new ≡ record self.old { outs = self.old.outs ++ Act (actions.ToClient self.old.number (spelling number payload.now)) ∷ [] }) }
         ensures err { OnErr result (Holds self.old self.new) }
     {
         self.tell(number, payload)?;
         Ok(())
     }
 
-    /// Tells the client an error of the proxy's own. Where there was no primary the pending command is answered so.
+    /// Tells the client an error of the proxy's own. Where there was no primary, or that is behind, the pending command is answered so.
     fn refuse(&mut self, number: u8, error: ProxyError) -> Result<(), AllocError>
         ensures ok { OnOk result (self.new ≡ gives (outs.Refuse number error) self.old) }
         ensures err { OnErr result (Holds self.old self.new) }
     {
-        self.tell_own(number, error.payload())?;
+        let payload = error.payload(self.alloc)?;
+        self.tell_own(number, payload.as_slice())?;
         self.end_by(error);
         Ok(())
     }
@@ -110,14 +132,23 @@ impl Session {
     fn end_by(&mut self, error: ProxyError)
         ensures { self.new ≡ record self.old { state = refused error self.old.state } }
     {
-        if error == ProxyError::NoPrimary {
-            self.end_unsent();
+        match error {
+            ProxyError::NoPrimary | ProxyError::PrimaryBehind { .. } => self.end_unsent(),
+            ProxyError::UnknownCommand
+            | ProxyError::NotSupported
+            | ProxyError::UnknownStatement
+            | ProxyError::BadExecute
+            | ProxyError::TooManyStatements
+            | ProxyError::NotInReadOnly
+            | ProxyError::TooManyConnections
+            | ProxyError::CommandTooLarge
+            | ProxyError::OutOfMemory => {}
         }
     }
 
-    /// The pending command was answered that there is no primary.
+    /// The pending command was answered by an error of the proxy's own.
     fn end_unsent(&mut self)
-        ensures { self.new ≡ record self.old { state = refused errors.NoPrimary self.old.state } }
+        ensures { self.new ≡ record self.old { state = ends_unsent self.old.state } }
     {
         if prepares(&self.pending) {
             self.statements.prepare_failed();
@@ -256,7 +287,7 @@ impl Session {
         if is_loss(cause) {
             self.owe_loss(link)?;
         }
-        self.outs.push_back(Action::Drop { link, cause })?;
+        self.act(Action::Drop { link, cause })?;
         self.links.remove(link);
         self.statements.drop_link(link);
         self.leave_link(link);
@@ -317,7 +348,7 @@ impl Session {
         ensures err { OnErr result (Holds self.old self.new) }
     {
         self.owe_farewells()?;
-        self.outs.push_back(Action::Close {
+        self.act(Action::Close {
             session: self.number,
             reason,
         })?;
@@ -350,4 +381,21 @@ fn farewells(links: &[NumberedLink], owed: &mut VecDeque<Out>) -> Result<(), All
         })?;
     }
     Ok(())
+}
+
+/// The later one of two commits, by their sequences: the one before at a tie, and its domain.
+fn later_of(gtid: Gtid, before: Option<Gtid>) -> Gtid
+    ensures { result ≡ later_of gtid before }
+{
+    let Some(before) = before else {
+        return gtid;
+    };
+    if before.sequence < gtid.sequence {
+        return Gtid {
+            domain: before.domain,
+            server: gtid.server,
+            sequence: gtid.sequence,
+        };
+    }
+    before
 }

@@ -3,16 +3,19 @@ ghost use Rattle.std.specs.Prelude.{◌≡◌, ◌++◌, ℕ, List, [], map, IfO
 ghost use Rattle.rws_commands.specs.Statements.{swept_if};
 ghost use Rattle.rws_record.specs.Item.{Item};
 ghost use Rattle.rws_record.specs.Values.{links};
-ghost use Rattle.rws_record.specs.Rules.{after_preparing, differing, due_arrival, form_of, owed, unasked};
+ghost use Rattle.rws_record.specs.Rules.{after_check, after_preparing, differing, due_arrival, form_of, owed, unasked};
 ghost use Rattle.rws_links.specs.Links.{link_of};
 ghost use Rattle.rws_links.specs.Table.{AreDistinct, ReadsFirst};
 ghost use Rattle.rws_session.specs.Kept.{Holds, Is};
-ghost use Rattle.rws_session.specs.Steps.{Tries, ended_in, ends_in, hears_coming, outcome_of, owes, owes_coming, owes_played, owes_reply, played_if, recording_in, takes_coming};
+ghost use Rattle.rws_session.specs.Steps.{Tries, commit_said, ended_in, ends_in, hears_coming, outcome_of, owes, owes_commit, owes_coming, owes_played, owes_reply, played_if, recording_in, takes_coming};
 
 use crate::owing::Out;
 use crate::session::Session;
-use rws_commands::{Ending, PreparedAs, is_otherwise};
+use crate::session::checking::{commit_said, heard_check};
+use rws_causal::Causal;
+use rws_commands::{Ending, PreparedAs, ProxyError, is_otherwise};
 use rws_config::Config;
+use rws_gtid::Gtid;
 use rws_link::LinkStep;
 use rws_links::{Asked, Coming, Recording, drop_cause, ends_by, sets_session};
 use rws_msgs::PrepareOk;
@@ -48,24 +51,40 @@ impl Session {
 
     /// Takes in what a link says.
     fn take_coming(&mut self, coming: Coming, config: &Config) -> Result<(), AllocError>
-        ensures ok { OnOk result (self.new ≡ record self.old { state = takes_coming config.now.history_limit coming self.old.state }) }
+        ensures ok { OnOk result (self.new ≡ record self.old { state = takes_coming config.now coming self.old.state }) }
         ensures err { OnErr result (Holds self.old self.new) }
     {
         let handle = self.statements.next_handle();
+        let server = coming.server;
+        let commit = commit_said(self.alloc, &coming.said, coming.asked, config.gtid_domain)?;
         self.hear_coming(&coming)?;
-        self.owe_coming(coming, handle, config)
+        self.owe_coming(coming, handle, config)?;
+        self.owe_commit(server, commit)
     }
 
-    /// The link's server is banned, if it answers an entry of the history otherwise; and statements may have an id there, or leave.
+    /// The words of the pool are to be told of a commit of this server before anything else.
+    fn owe_commit(&mut self, server: u8, commit: Option<Gtid>) -> Result<(), AllocError>
+        ensures ok { OnOk result (self.new ≡ record self.old { state = owes_commit server commit self.old.state }) }
+        ensures err { OnErr result (Holds self.old self.new) }
+    {
+        match commit {
+            Some(gtid) => self.owe(Out::Record { server, gtid }),
+            None => Ok(()),
+        }
+    }
+
+    /// The link's server is banned, if it answers an entry of the history otherwise; statements may have an id there, or leave; and
+    /// the pending command may go on, or back to the primary.
     fn hear_coming(&mut self, coming: &Coming) -> Result<(), AllocError>
         ensures ok { OnOk result (self.new ≡ record self.old { state = hears_coming coming.now self.old.state }) }
         ensures holds { Holds self.old self.new }
     {
         self.banned = coming.bans(self.banned);
-        match outcome_of(&coming.said) {
-            None => Ok(()),
-            Some(outcome) => self.hear_end(coming, outcome),
+        if let Some(outcome) = outcome_of(&coming.said) {
+            self.hear_end(coming, outcome)?;
         }
+        self.routing = heard_check(coming.checked, self.routing);
+        Ok(())
     }
 
     /// A reply on a link ended so.
@@ -85,7 +104,7 @@ impl Session {
             Some(Asked::Entry { serial, statement }) => {
                 self.name_played(coming.link, serial, statement, coming.named, outcome)
             }
-            Some(Asked::Preamble) | None => Ok(()),
+            Some(Asked::Preamble | Asked::Wait | Asked::Probe(_)) | None => Ok(()),
         }
     }
 
@@ -139,6 +158,7 @@ impl Session {
             said,
             asked,
             named,
+            checked,
         } = coming;
         match said {
             LinkStep::Part {
@@ -159,6 +179,7 @@ impl Session {
                     },
                 ) => self.take_played(link, statement, named, progress, behind),
                 Some(Asked::Preamble) => self.take_prepared(link, progress, behind),
+                Some(Asked::Wait | Asked::Probe(_)) => self.take_checked(link, checked, behind),
                 None => Ok(()),
             },
             LinkStep::Lost(cause) => self.owe(Out::Drop {
@@ -225,6 +246,36 @@ impl Session {
                 link,
                 cause: DropCause::Login { code },
             }),
+        }
+    }
+
+    /// A payload of the answer to a wait or a probe came, by which this comes next of the command.
+    fn take_checked(
+        &mut self,
+        link: u64,
+        checked: Option<Causal>,
+        behind: bool,
+    ) -> Result<(), AllocError>
+        ensures ok { OnOk result (self.new ≡ record self.old { state = owes (after_check link checked behind self.old.state.reply_number) self.old.state }) }
+        ensures err { OnErr result (Holds self.old self.new) }
+    {
+        match checked {
+            None => Ok(()),
+            Some(Causal::Stale { wanted, found }) => {
+                let number = self.reply_number;
+                self.owe_unasked(link, behind)?;
+                self.owe(Out::Refuse {
+                    number,
+                    error: ProxyError::PrimaryBehind { wanted, found },
+                })
+            }
+            Some(Causal::Unreadable) => self.owe(Out::Drop {
+                link,
+                cause: DropCause::Probe,
+            }),
+            Some(Causal::Go | Causal::Wait(_) | Causal::Probe(_) | Causal::TryPrimary) => {
+                self.owe_unasked(link, behind)
+            }
         }
     }
 

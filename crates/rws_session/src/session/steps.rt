@@ -10,17 +10,19 @@ ghost use Rattle.rws_board.specs.declared.action.Action.TheVariants as actions;
 ghost use Rattle.rws_config.specs.declared.config.Config.{Config};
 ghost use Rattle.rws_commands.specs.Commands.{asked_under};
 ghost use Rattle.rws_commands.specs.Statements.{forgotten, stale_on, unplayed};
-ghost use Rattle.rws_record.specs.Item.{Item};
+ghost use Rattle.rws_record.specs.declared.output.Output.TheVariants.{Act};
+ghost use Rattle.rws_record.specs.Item.{Item, Purpose};
 ghost use Rattle.rws_record.specs.Item.Purpose.{Asks, Plays, Prepares};
 ghost use Rattle.rws_record.specs.Outputs.{close_bytes};
-ghost use Rattle.rws_record.specs.Values.{asking, contains, is_up, linked, links};
+ghost use Rattle.rws_record.specs.Values.{asking, contains, is_up, linked, links, preamble};
 ghost use Rattle.rws_record.specs.Rules.{after_flood, due_flood, due_route, due_sends, flood_by, flood_limit, is_ready, is_same, next, owed};
 ghost use Rattle.rws_links.specs.declared.finding.DueKind.TheVariants as kinds;
+ghost use Rattle.rws_reply.specs.declared.kind.Kind.TheVariants.{Query as QueryReply};
 ghost use Rattle.rws_links.specs.Links.{link_of};
-ghost use Rattle.rws_links.specs.Table.{AreDistinct, SendsOn, without_number};
+ghost use Rattle.rws_links.specs.Table.{AreDistinct, IsSending, SendsOn, without_number};
 ghost use Rattle.rws_session.specs.declared.owing.Out.TheVariants as outs;
 ghost use Rattle.rws_session.specs.Kept.{Holds, Is};
-ghost use Rattle.rws_session.specs.Steps.{SendsClose, SendsEntry, SendsPending, SendsPreamble, Tries, due_put, found_due, going, id_in, is_keeping, is_unrouted, others_dropped, owes, unsent};
+ghost use Rattle.rws_session.specs.Steps.{SendsClose, SendsEntry, SendsOwn, SendsPending, Tries, due_put, found_due, going, id_in, is_keeping, is_unrouted, others_dropped, owes, unsent};
 
 use crate::owing::Out;
 use crate::session::Session;
@@ -29,7 +31,7 @@ use rws_commands::{ClassedCommand, ProxyError, put_asked};
 use rws_config::{Config, FLOOD_ROOM};
 use rws_links::{Asked, Due, DueKind, NumberedLink};
 use rws_msgs::command::COM_STMT_CLOSE;
-use rws_record::preamble;
+use rws_record::{Output, preamble};
 use rws_reply::Kind;
 use rws_wire::{CloseReason, DropCause, PayloadList, Text};
 use std::alloc::{AllocError, Global};
@@ -54,7 +56,7 @@ impl Session {
         if self.ask() {
             return Ok(true);
         }
-        if self.send()? {
+        if self.send(config)? {
             return Ok(true);
         }
         if self.refuse_flood(config)? {
@@ -119,28 +121,28 @@ impl Session {
     }
 
     /// Sends what is due on the first link on which something is: the preamble, an entry of the history, or the pending command.
-    fn send(&mut self) -> Result<bool, AllocError>
-        ensures ok { (config : Config) (past : List Item) → Is config self.old past → owed config past ≡ []
-            → IfOk result (λ went. Tries config (due_sends config (links past) past) past went self.old self.new) }
+    fn send(&mut self, config: &Config) -> Result<bool, AllocError>
+        ensures ok { (past : List Item) → Is config.now self.old past → owed config.now past ≡ []
+            → IfOk result (λ went. Tries config.now (due_sends config.now (links past) past) past went self.old self.new) }
         ensures err { OnErr result (Holds self.old self.new) }
     {
         match self.due() {
             None => Ok(false),
-            Some(due) => self.send_due(due),
+            Some(due) => self.send_due(due, config),
         }
     }
 
     /// Sends what is due first. Before an entry or a command the link's server is told to close a statement that has left.
-    fn send_due(&mut self, due: Due) -> Result<bool, AllocError>
-        ensures ok { (config : Config) (past : List Item) → Is config self.old past → owed config past ≡ []
+    fn send_due(&mut self, due: Due, config: &Config) -> Result<bool, AllocError>
+        ensures ok { (past : List Item) → Is config.now self.old past → owed config.now past ≡ []
             → found_due self.old.state ≡ Some due
-            → IfOk result (λ went. Tries config (due_sends config (links past) past) past went self.old self.new) }
+            → IfOk result (λ went. Tries config.now (due_sends config.now (links past) past) past went self.old self.new) }
         ensures err { OnErr result (Holds self.old self.new) }
     {
         match due.what {
             DueKind::Preamble => self.send_preamble(due.link),
             DueKind::Entry => self.play(due.link, due.entry),
-            DueKind::Command => self.ask_on(due.link, due.entry),
+            DueKind::Command => self.ask_on(due.link, due.entry, config),
         }
     }
 
@@ -161,17 +163,20 @@ impl Session {
     }
 
     /// The pending command is due on a link, which has played all entries below this serial.
-    fn ask_on(&mut self, link: u64, serial: u64) -> Result<bool, AllocError>
-        ensures ok { (config : Config) (past : List Item) → Is config self.old past → owed config past ≡ []
+    fn ask_on(&mut self, link: u64, serial: u64, config: &Config) -> Result<bool, AllocError>
+        ensures ok { (past : List Item) → Is config.now self.old past → owed config.now past ≡ []
             → found_due self.old.state ≡ Some (record { link = link; what = kinds.Command; entry = serial })
-            → IfOk result (λ went. Tries config (due_sends config (links past) past) past went self.old self.new) }
+            → IfOk result (λ went. Tries config.now (due_sends config.now (links past) past) past went self.old self.new) }
         ensures err { OnErr result (Holds self.old self.new) }
     {
         if !self.is_busy() {
             return Ok(false);
         }
-        match self.take_stale(link) {
-            Some(id) => self.send_close(link, id),
+        if let Some(id) = self.take_stale(link) {
+            return self.send_close(link, id);
+        }
+        match self.checks_first() {
+            Some(check) => self.send_check(link, check, config),
             None => self.send_pending(link),
         }
     }
@@ -230,20 +235,35 @@ impl Session {
 
     /// Sends the preamble on a link, if that waits for it.
     fn send_preamble(&mut self, link: u64) -> Result<bool, AllocError>
-        ensures sends { IfOk result (λ went. SendsPreamble link went self.old self.new) }
+        ensures sends { IfOk result (λ went. SendsOwn link preamble went self.old self.new) }
         ensures links { (past : List Item) (numbers : List ℕ) → self.old.state.links ≡ map (link_of past) numbers → AreDistinct numbers
             → IfOk result (λ went. SendsOn link Prepares past numbers went self.new.state.links) }
         ensures err { OnErr result (Holds self.old self.new) }
     {
+        self.send_own(link, Asked::Preamble, preamble())
+    }
+
+    /// Sends a statement of the proxy's own on a link, a COM_QUERY, if the link may be sent what was asked.
+    pub(super) fn send_own(
+        &mut self,
+        link: u64,
+        asked: Asked,
+        payload: &[u8],
+    ) -> Result<bool, AllocError>
+        ensures sends { IfOk result (λ went. SendsOwn link payload.now went self.old self.new) }
+        ensures links { (purpose : Purpose) (past : List Item) (numbers : List ℕ) → IsSending asked (payload.now ∷ []) QueryReply purpose
+            → self.old.state.links ≡ map (link_of past) numbers → AreDistinct numbers
+            → IfOk result (λ went. SendsOn link purpose past numbers went self.new.state.links) }
+        ensures err { OnErr result (Holds self.old self.new) }
+    {
         let mut bytes = Vec::new(self.alloc);
-        let asked = Asked::Preamble;
         if !self
             .links
-            .send_one(link, asked, preamble(), Kind::Query, &mut bytes)?
+            .send_one(link, asked, payload, Kind::Query, &mut bytes)?
         {
             return Ok(false);
         }
-        self.outs.push_back(Action::ToLink {
+        self.act(Action::ToLink {
             link,
             bytes: Text::new(bytes),
         })?;
@@ -264,7 +284,7 @@ impl Session {
         if !self.links.send_entry(link, entry, &mut bytes)? {
             return Ok(false);
         }
-        self.outs.push_back(Action::ToLink {
+        self.act(Action::ToLink {
             link,
             bytes: Text::new(bytes),
         })?;
@@ -313,7 +333,7 @@ impl Session {
 
     /// Packets go on a link, each as an output of its own.
     fn put_out(&mut self, link: u64, packets: &PayloadList) -> Result<(), AllocError>
-        ensures ok { OnOk result (self.new ≡ record self.old { outs = self.old.outs ++ map (λ bytes. actions.ToLink link bytes) packets.now }) }
+        ensures ok { OnOk result (self.new ≡ record self.old { outs = self.old.outs ++ map (λ bytes. Act (actions.ToLink link bytes)) packets.now }) }
         ensures err { OnErr result (Holds self.old self.new) }
     {
         let mut more = VecDeque::new(self.alloc);
@@ -452,15 +472,15 @@ fn put_each(
     alloc: Global,
     link: u64,
     packets: &[Text],
-    outs: &mut VecDeque<Action>,
+    outs: &mut VecDeque<Output>,
 ) -> Result<(), AllocError>
-    ensures { OnOk result (outs.new.items ≡ outs.old.items ++ map (λ bytes. actions.ToLink link bytes) packets.now) }
+    ensures { OnOk result (outs.new.items ≡ outs.old.items ++ map (λ bytes. Act (actions.ToLink link bytes)) packets.now) }
 {
     match packets {
         [] => Ok(()),
         [first, others @ ..] => {
             let bytes = Text::from_slice(alloc, first.as_slice())?;
-            outs.push_back(Action::ToLink { link, bytes })?;
+            outs.push_back(Output::Act(Action::ToLink { link, bytes }))?;
             put_each(alloc, link, others, outs)
         }
     }

@@ -1,4 +1,4 @@
-use Rattle.std.proofs.Common.{◌≡◌, ℕ, List, map, refl, subst, sym, true, ◌∙◌, Option, Some}
+use Rattle.std.proofs.Common.{◌≡◌, map, subst, sym, true, Option, Some}
 use Rattle.rws_wire.specs.Packets.{spelling}
 use Rattle.rws_commands.specs.declared.command.Command.{Command}
 use Rattle.rws_commands.specs.Commands.{asked_under}

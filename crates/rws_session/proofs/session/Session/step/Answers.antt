@@ -9,7 +9,7 @@ returns-clause-ok c = λ past is.
     is (sym c.is_asking.ensures ∙ c.if-is_asking.false) (sym c.is_over.ensures.kept ∙ c.if-is_over.false)
     (rw c.if-branch.false at (c.in_ok-pay.ensures.ok c.args.config.now past is))
     (λ is_1 o a. rw c.if-ask.false at (c.ask.ensures c.args.config.now past is_1 o a))
-    (λ is_2 o. rw c.if-branch-2.false at (c.in_ok-send.ensures.ok c.args.config.now past is_2 o))
+    (λ is_2 o. rw c.if-branch-2.false at (c.in_ok-send.ensures.ok past is_2 o))
     c.refuse_flood.new.self
     (λ is_3 o. rw c.if-branch-3.false at (c.in_ok-refuse_flood.ensures.ok past is_3 o))
     c.read_links.new.self
@@ -22,7 +22,7 @@ returns-clause-err c = λ past is.
     is (sym c.is_asking.ensures ∙ c.if-is_asking.false) (sym c.is_over.ensures.kept ∙ c.if-is_over.false)
     (rw c.if-branch.false at (c.in_ok-pay.ensures.ok c.args.config.now past is))
     (λ is_1 o a. rw c.if-ask.false at (c.ask.ensures c.args.config.now past is_1 o a))
-    (λ is_2 o. rw c.if-branch-2.false at (c.in_ok-send.ensures.ok c.args.config.now past is_2 o))
+    (λ is_2 o. rw c.if-branch-2.false at (c.in_ok-send.ensures.ok past is_2 o))
     c.refuse_flood.new.self
     (λ is_3 o. rw c.if-branch-3.false at (c.in_ok-refuse_flood.ensures.ok past is_3 o))
     c.read_links.new.self
@@ -35,7 +35,7 @@ returns-in_err-read_links-clause-err c = λ past is.
     is (sym c.is_asking.ensures ∙ c.if-is_asking.false) (sym c.is_over.ensures.kept ∙ c.if-is_over.false)
     (rw c.if-branch.false at (c.in_ok-pay.ensures.ok c.args.config.now past is))
     (λ is_1 o a. rw c.if-ask.false at (c.ask.ensures c.args.config.now past is_1 o a))
-    (λ is_2 o. rw c.if-branch-2.false at (c.in_ok-send.ensures.ok c.args.config.now past is_2 o))
+    (λ is_2 o. rw c.if-branch-2.false at (c.in_ok-send.ensures.ok past is_2 o))
     c.refuse_flood.new.self
     (λ is_3 o. rw c.if-branch-3.false at (c.in_ok-refuse_flood.ensures.ok past is_3 o))
     c.read_links.new.self c.in_err-read_links.ensures.err)
@@ -46,7 +46,7 @@ returns-in_err-refuse_flood-clause-err c = λ past is.
     is (sym c.is_asking.ensures ∙ c.if-is_asking.false) (sym c.is_over.ensures.kept ∙ c.if-is_over.false)
     (rw c.if-branch.false at (c.in_ok-pay.ensures.ok c.args.config.now past is))
     (λ is_1 o a. rw c.if-ask.false at (c.ask.ensures c.args.config.now past is_1 o a))
-    (λ is_2 o. rw c.if-branch-2.false at (c.in_ok-send.ensures.ok c.args.config.now past is_2 o))
+    (λ is_2 o. rw c.if-branch-2.false at (c.in_ok-send.ensures.ok past is_2 o))
     c.refuse_flood.new.self c.in_err-refuse_flood.ensures.err)
 
 pub returns-in_err-send-clause-err : goal.returns-in_err-send-clause-err
@@ -63,7 +63,7 @@ returns-then-branch-4-clause-ok c = λ past is.
     is (sym c.is_asking.ensures ∙ c.if-is_asking.false) (sym c.is_over.ensures.kept ∙ c.if-is_over.false)
     (rw c.if-branch.false at (c.in_ok-pay.ensures.ok c.args.config.now past is))
     (λ is_1 o a. rw c.if-ask.false at (c.ask.ensures c.args.config.now past is_1 o a))
-    (λ is_2 o. rw c.if-branch-2.false at (c.in_ok-send.ensures.ok c.args.config.now past is_2 o))
+    (λ is_2 o. rw c.if-branch-2.false at (c.in_ok-send.ensures.ok past is_2 o))
     c.refuse_flood.new.self
     (λ is_3 o. rw c.if-branch-3.false at (c.in_ok-refuse_flood.ensures.ok past is_3 o))
     c.read_links.new.self
