@@ -1,43 +1,41 @@
 -- A session that asked is answered.
-use Rattle.std.proofs.Common.{◌≡◌, ℕ, ◌+◌, ◌-◌, ◌<◌, ◌^◌, ⊎_elim, min, Bool, true, false, not, List, [], ◌∷◌, ◌++◌, map, refl, sym, ap, subst, ◌∙◌, Option, Some, None, arith, append_assoc, if◌then◌else◌}
+use Rattle.std.proofs.Common.{◌≡◌, ℕ, ◌+◌, ◌-◌, ◌<◌, ◌^◌, ⊎_elim, min, Bool, true, false, not, List, [], ◌∷◌, ◌++◌, map, refl, sym, ap, subst, ◌∙◌, Option, Some, None, arith, if◌then◌else◌}
 use Rattle.std.proofs.lemmas.Bool.{cases_eq, eq-eqb, ne_eqb}
-use Rattle.std.proofs.lemmas.List.{append-nil}
 use Rattle.std.specs.BTreeMap.{BTreeMap, get}
 use Rattle.std.specs.Ordering.{nat_cmp}
-use Rattle.rws_board.specs.declared.action.Action.{Action}
 use Rattle.rws_board.specs.declared.action.Action.TheVariants.{Open}
 use Rattle.rws_board.specs.declared.event.Event.{Event}
 use Rattle.rws_board.specs.declared.interaction.Interaction.{Interaction}
-use Rattle.rws_board.specs.declared.interaction.Interaction.TheVariants.{Took}
 use Rattle.rws_native.specs.declared.login.Login.{Login}
 use Rattle.rws_pool.specs.declared.words.PoolWords.{PoolWords}
 use Rattle.rws_select.specs.declared.selector.Load.{Load}
 use Rattle.rws_route.specs.declared.destination.Target.{Target}
 use Rattle.rws_route.specs.declared.destination.Target.TheVariants.{Primary, Replica, NoPrimary as Nowhere}
 use Rattle.rws_config.specs.declared.config.Config.{Config}
+use Rattle.rws_record.specs.declared.output.Output.{Output}
+use Rattle.rws_record.specs.declared.output.Output.TheVariants.{Act}
 use Rattle.rws_record.specs.Item.{Item, Put}
-use Rattle.rws_record.specs.Item.Item.{Accepted, TurnsAway, Began, ClientBytes, LinkReady, LinkBytes, ClientGone, LinkLost, Ticks, Routed, Comes, Connects, Takes, Floods, Puts, Starves}
+use Rattle.rws_record.specs.Item.Item.{Puts, Starves}
 use Rattle.rws_record.specs.Item.Put.{Opens as Opened}
-use Rattle.rws_record.specs.Outputs.{done_for as done_by}
-use Rattle.rws_record.specs.Values.{asking, contains, is_over, is_starved, links, opens}
-use Rattle.rws_record.specs.Rules.{after_route, found_in, next, owed}
+use Rattle.rws_record.specs.Outputs.{done_as, done_for as done_by}
+use Rattle.rws_record.specs.Values.{asking, contains, is_over, links, opens}
+use Rattle.rws_record.specs.Rules.{after_route, found_in, next}
 use Rattle.rws_record.specs.Record.{IsInput, IsRecord, want_number}
 use Rattle.rws_record.specs.Record.IsRecord.{steps, answers as answers_it, hears as hears_it, starves as starves_it}
-use Rattle.rws_record.specs.Run.{Entry, IsRun, answer_for, begun, events_of, is_live, last_link, loads_of, owner, record_of, untold, words_of}
+use Rattle.rws_record.specs.Run.{Entry, IsRun, answer_for, events_of, is_live, last_link, loads_of, owner, record_of, untold, words_of}
 use Rattle.rws_record.specs.Run.Entry.{Did}
 use Rattle.rws_record.specs.Run.IsRun.{goes_on, starves}
 use Rattle.rws_record.proofs.OpeningLemmas.{asks_open, is_plain, plain_unless_answered}
 use Rattle.rws_session.specs.State.{farewell_packet, numbered}
-use Rattle.rws_session.specs.Kept.{Is, Kept, Lasting, lasting, lasting_of}
-use Rattle.rws_session.specs.Turning.{Answers, Opens, TakesIn, answer_to}
-use Rattle.rws_worker.specs.declared.ahead.Ahead.TheVariants.{Nothing}
+use Rattle.rws_session.specs.Kept.{Is, Kept, Lasting, lasting_of}
+use Rattle.rws_session.specs.Turning.{Answers, answer_to}
 use Rattle.rws_worker.specs.declared.asker.Asker.TheVariants.{Nobody, Awaits}
 use Rattle.rws_worker.specs.declared.tally.Tally.{Tally}
 use Rattle.rws_worker.specs.declared.worker.Worker.{Worker}
 use Rattle.rws_worker.specs.declared.worker.telling.TurnEnd.{TurnEnd}
 use Rattle.rws_worker.specs.declared.worker.telling.TurnEnd.TheVariants as ends
 use Rattle.rws_worker.specs.Stepping.{from_of, asker_in, is_asking, is_awaiting, is_going}
-use Rattle.rws_worker.specs.Standing.{Advances, IsAsking, CanAnswer, IsSeated, SeatStands, ToTell, WorkerStands, holds, interactions_of}
+use Rattle.rws_worker.specs.Standing.{Advances, IsAsking, CanAnswer, IsSeated, SeatStands, WorkerStands, holds, interactions_of}
 use Rattle.rws_worker.specs.InTurn.{InTurn, asks_outside}
 use Rattle.rws_worker.specs.Tallies.{plus, seven, tally_but, tally_in, tally_of}
 use Rattle.rws_worker.specs.Telling.{Changes, CountsOut, Finishes, GoesOnSo, Responds, RespondsNone}
@@ -149,7 +147,7 @@ module _ {config : Config} {old : Worker} {run : List Entry} (w : WorkerStands c
 -- The next link is opened
 
 module _ {config : Config} {done : List Interaction} {events : List Event} {session : ℕ} {worker : Worker} {now : List Entry}
-    {outs : List Action} (t : InTurn config done events session worker true now outs) (silent : asking (record_of session now) ≡ false)
+    {outs : List Output} (t : InTurn config done events session worker true now outs) (silent : asking (record_of session now) ≡ false)
     (server : ℕ) (login : Login)
     (opens_next : next config (record_of session now) ≡ Some (Puts (Opened (last_link now + 1) server login)))
     (owners : BTreeMap ℕ ℕ) (changes : Changes worker.owners owners (worker.last_link + 1) (Some session))
@@ -188,7 +186,7 @@ module _ {config : Config} {done : List Interaction} {events : List Event} {sess
   unwritten other apart = changes.apart other (λ same. apart (sym same_link ∙ same))
 
   pub opens_in : InTurn config done events session (record worker { owners = owners; last_link = worker.last_link + 1 }) true opened_run
-      (outs ++ Open newest server session ∷ [])
+      (outs ++ Act (Open newest server session) ∷ [])
   opens_in = record {
     legal = goes_on t.legal (step_at config session now opening t.hears opens_next);
     hears = t.hears;
@@ -223,9 +221,9 @@ module _ {config : Config} {done : List Interaction} {events : List Event} {sess
     tallied = t.tallied ∙ seven_same (λ s. tally_but session now s) (λ s. tally_but session opened_run s)
         (λ s. sym (tally_kept session now t.legal opened_run refl apart_now s));
     heard = t.heard;
-    did = more_done (interactions_of now) done outs (Open newest server session ∷ []) []
-        (t.did ∙ ap (λ (a : Bool). done ++ (map Took outs ++ asks_outside a session)) silent)
-        ∙ ap (λ (a : Bool). done ++ (map Took (outs ++ Open newest server session ∷ []) ++ asks_outside a session)) (sym (ap asking at_opened ∙ silent));
+    did = more_done (interactions_of now) done outs (Act (Open newest server session) ∷ []) []
+        (t.did ∙ ap (λ (a : Bool). done ++ (map done_as outs ++ asks_outside a session)) silent)
+        ∙ ap (λ (a : Bool). done ++ (map done_as (outs ++ Act (Open newest server session) ∷ []) ++ asks_outside a session)) (sym (ap asking at_opened ∙ silent));
     bare = record {
       nothing = t.bare.nothing;
       unbroken = t.bare.unbroken;
@@ -238,7 +236,7 @@ module _ {config : Config} {done : List Interaction} {events : List Event} {sess
 
 -- Or none is: its number has no owner, as before
 pub disowned : {config : Config} {done : List Interaction} {events : List Event} {session : ℕ} {worker : Worker} {now : List Entry}
-    {outs : List Action} → InTurn config done events session worker true now outs → (owners : BTreeMap ℕ ℕ)
+    {outs : List Output} → InTurn config done events session worker true now outs → (owners : BTreeMap ℕ ℕ)
     → ((link its : ℕ) → get nat_cmp owners link ≡ Some its → get nat_cmp worker.owners link ≡ Some its)
     → ((link : ℕ) → (worker.last_link + 1 ≡ link → ⊥) → get nat_cmp owners link ≡ get nat_cmp worker.owners link)
     → InTurn config done events session (record worker { owners = owners }) true now outs
@@ -314,7 +312,7 @@ module _ {config : Config} {old : Worker} {run : List Entry} (w : WorkerStands c
 
   routed : InTurn config (interactions_of run) (events_of run) session mid true (Did session answer ∷ run) before.outs
   routed =
-      subst (λ (xs : List Action). InTurn config (interactions_of run) (events_of run) session mid true (Did session answer ∷ run) xs)
+      subst (λ (xs : List Output). InTurn config (interactions_of run) (events_of run) session mid true (Did session answer ∷ run) xs)
       (sym (nothing_waits w session asks session before found))
       (resumes w session asks answer refl refl refl
       (goes_on w.legal (answer_at config session run (its w session asks).hears seat.stands.asks ∙ ap (λ (i : Item). Some (Did session i)) (sym alike)))
@@ -345,11 +343,11 @@ module _ {config : Config} {old : Worker} {run : List Entry} (w : WorkerStands c
         let t1 = opens_in routed silent a.server a.login next_put responded.owners owners (can w session asks).numbers in
         let at1 = at_opened routed silent a.server a.login next_put responded.owners owners (can w session asks).numbers
         ∙ ap (λ (p : List Item). Puts (Opened link a.server a.login) ∷ p) at in
-        let outs_are : before.outs ++ Open link a.server session ∷ [] ≡ r.kept.outs =
-        ap (λ (n : ℕ). before.outs ++ Open link a.server n ∷ []) (sym seat.numbered)
-        ∙ ap (λ (l : ℕ). before.outs ++ Open l a.server before.number ∷ []) (sym next_is) ∙ sym a.waits in
+        let outs_are : before.outs ++ Act (Open link a.server session) ∷ [] ≡ r.kept.outs =
+        ap (λ (n : ℕ). before.outs ++ Act (Open link a.server n) ∷ []) (sym seat.numbered)
+        ∙ ap (λ (l : ℕ). before.outs ++ Act (Open l a.server before.number) ∷ []) (sym next_is) ∙ sym a.waits in
         let opened_run : List Entry = Did session (Puts (Opened link a.server a.login)) ∷ now in
-        let t2 = subst (λ (xs : List Action). InTurn config (interactions_of run) (events_of run) session
+        let t2 = subst (λ (xs : List Output). InTurn config (interactions_of run) (events_of run) session
         (record mid { owners = responded.owners; last_link = old.last_link + 1 }) true opened_run xs) outs_are t1 in
         let same : record mid { owners = responded.owners; last_link = old.last_link + 1; sessions = later.sessions } ≡ later =
         sym (rest' ∙ ap (λ (v : Worker). record v { sessions = later.sessions }) rest
@@ -371,7 +369,7 @@ module _ {config : Config} {old : Worker} {run : List Entry} (w : WorkerStands c
         (λ (apart : old.last_link + 1 ≡ link → ⊥). sym (owners.apart link apart) ∙ e)
         (cases_eq (old.last_link + 1) link) in
         let t1 = disowned routed responded.owners fewer owners.apart in
-        let t2 = subst (λ (xs : List Action). InTurn config (interactions_of run) (events_of run) session
+        let t2 = subst (λ (xs : List Output). InTurn config (interactions_of run) (events_of run) session
         (record mid { owners = responded.owners }) true now xs) (sym a.waits) t1 in
         let same : record mid { owners = responded.owners; sessions = later.sessions } ≡ later =
         sym (rest' ∙ ap (λ (v : Worker). record v { sessions = later.sessions }) rest
@@ -404,7 +402,7 @@ module _ {config : Config} {old : Worker} {run : List Entry} (w : WorkerStands c
         let empty = nothing_waits w session asks session before found in
         let last : Lasting = lasting_of config session before.outs ago in
         breaks_it {last = last} n.kept (n.holds ∙ lasting_is config session before ago seat.numbered seat.stands.is.mirrors) refl n.sessions.here new t2.bare
-        (subst (λ (xs : List Action). IsOver config (interactions_of run) (events_of run) session responded true
+        (subst (λ (xs : List Output). IsOver config (interactions_of run) (events_of run) session responded true
         (xs ++ ends_so session false (numbered (want_number config ago) farewell_packet) (links ago))) (sym empty)
         (subst (λ (packet : List ℕ). IsOver config (interactions_of run) (events_of run) session responded true (ends_so session false packet (links ago)))
         (sym (farewell_of (want_number config ago))) o)) f

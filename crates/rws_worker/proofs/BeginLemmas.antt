@@ -1,23 +1,23 @@
 -- What the worker stands for where a session begins, or was to begin.
-use Rattle.std.proofs.Common.{◌≡◌, ℕ, ◌+◌, ◌<◌, ◌^◌, ⊎_elim, max, Bool, true, false, not, List, [], ◌∷◌, ◌++◌, map, refl, sym, ap, subst, ◌∙◌, Option, Some, None, arith}
+use Rattle.std.proofs.Common.{◌≡◌, ℕ, ◌+◌, ◌<◌, ◌^◌, ⊎_elim, Bool, true, false, not, List, [], ◌∷◌, ◌++◌, map, refl, sym, ap, subst, ◌∙◌, Option, Some, None, arith}
 use Rattle.std.proofs.lemmas.Bool.{cases_eq, eq-eqb, ne_eqb}
 use Rattle.std.proofs.lemmas.List.{append-nil}
 use Rattle.std.specs.BTreeMap.{BTreeMap, get}
 use Rattle.std.specs.Ordering.{nat_cmp}
 use Rattle.rws_wire.specs.declared.close_reason.CloseReason.TheVariants.{Memory}
 use Rattle.rws_wire.specs.declared.drop_cause.DropCause.TheVariants.{End}
-use Rattle.rws_board.specs.declared.action.Action.{Action}
 use Rattle.rws_board.specs.declared.action.Action.TheVariants.{Close, Drop}
 use Rattle.rws_board.specs.declared.event.Event.{Event}
-use Rattle.rws_board.specs.declared.interaction.Interaction.{Interaction}
-use Rattle.rws_board.specs.declared.interaction.Interaction.TheVariants.{Took}
 use Rattle.rws_config.specs.declared.config.Config.{Config}
+use Rattle.rws_record.specs.Outputs.{done_as}
+use Rattle.rws_record.specs.declared.output.Output.{Output}
+use Rattle.rws_record.specs.declared.output.Output.TheVariants.{Act}
 use Rattle.rws_record.specs.Item.{Item}
 use Rattle.rws_record.specs.Item.Item.{Accepted, TurnsAway, Began}
 use Rattle.rws_record.specs.Values.{asking, contains, is_over, is_starved, links}
 use Rattle.rws_record.specs.Rules.{next}
 use Rattle.rws_record.specs.Record.{IsBeginning, want_number}
-use Rattle.rws_record.specs.Run.{Entry, begun, begun_by, events_of, greatest, is_live, last_clock, last_link, owner, reading_by, record_of, round_of, told_by, untold}
+use Rattle.rws_record.specs.Run.{Entry, begun_by, events_of, greatest, is_live, last_clock, last_link, owner, reading_by, record_of, round_of, told_by}
 use Rattle.rws_record.specs.Run.Entry.{Came, Heard}
 use Rattle.rws_record.specs.Run.IsRun.{goes_on}
 use Rattle.rws_record.proofs.OpeningLemmas.{is_answered, plain_unless_answered}
@@ -26,8 +26,8 @@ use Rattle.rws_session.specs.Kept.{Is, Kept}
 use Rattle.rws_worker.specs.declared.ahead.Ahead.TheVariants.{Nothing, Unmade}
 use Rattle.rws_worker.specs.declared.worker.Worker.{Worker}
 use Rattle.rws_worker.specs.declared.worker.telling.TurnEnd.{TurnEnd}
-use Rattle.rws_worker.specs.Stepping.{from_of, IsBare, IsIdle, drops}
-use Rattle.rws_worker.specs.Standing.{Advances, Gives, IsBehind, SeatStands, ToTell, WorkerStands, holds, interactions_of}
+use Rattle.rws_worker.specs.Stepping.{from_of, IsIdle, drops}
+use Rattle.rws_worker.specs.Standing.{Gives, IsBehind, SeatStands, ToTell, WorkerStands, holds, interactions_of}
 use Rattle.rws_worker.specs.InTurn.{InTurn, IsBetween, asks_outside}
 use Rattle.rws_worker.specs.Tallies.{seven, tally_but, tally_of}
 use Rattle.rws_worker.specs.Telling.{Begins, BeginsWithout, Finishes, GoesOnSo, Places}
@@ -135,7 +135,7 @@ module _ {config : Config} {run : List Entry} {event : Event} {session : ℕ} {i
       let start : List Entry = Heard session item ∷ Came event ∷ run in
       let same : later ≡ record old { sessions = later.sessions } = rest' ∙ ap (λ (v : Worker). record v { sessions = later.sessions }) rest in
       let t : InTurn config done events session old true start p.kept.outs =
-      subst (λ (xs : List Action). InTurn config done events session old true start xs) (sym p.starts.outs) begun_without in
+      subst (λ (xs : List Output). InTurn config done events session old true start xs) (sym p.starts.outs) begun_without in
       let u : InTurn config done events session later true start p.kept.outs =
       subst (λ (v : Worker). InTurn config done events session v true start p.kept.outs) (sym same)
       (moved t later.sessions (then_changes old.sessions placed.sessions later.sessions session (Some p.kept) (Some g.kept) p.sessions g.sessions)) in
@@ -151,7 +151,7 @@ module _ {config : Config} {run : List Entry} {event : Event} {session : ℕ} {i
       (ap asking r.here ∙ f.unasking)
       (record { here = same session ∙ empty_seat b its.0; apart = λ other apart. same other })
       (unmade_without_does (record old { sessions = sessions; ahead = Nothing; broken = Some session; closing = Some session }) session refl refl refl b.bare.unobserved b.bare.unasked
-      ∙ ap (λ (list : List ℕ). map Took (Close session Memory ∷ drops list)) (sym (starts_linkless item its)))
+      ∙ ap (λ (list : List ℕ). map done_as (Act (Close session Memory) ∷ drops list)) (sym (starts_linkless item its)))
 
 -- On the next link
 
@@ -252,7 +252,7 @@ module _ {config : Config} {run : List Entry} {event : Event} {session server re
       let is : Is config kept (item ∷ []) = subst (λ (l : ℕ). Is config kept (Began l server reading ∷ [])) same_link p.starts.is in
       let same : later ≡ record worker { sessions = later.sessions } = rest' ∙ ap (λ (v : Worker). record v { sessions = later.sessions }) rest in
       let t : InTurn config done events session worker true begun_run kept.outs =
-      subst (λ (xs : List Action). InTurn config done events session worker true begun_run xs) (sym p.starts.outs)
+      subst (λ (xs : List Output). InTurn config done events session worker true begun_run xs) (sym p.starts.outs)
       (subst (λ (b : Bool). InTurn config done events session worker b begun_run []) there begun_on) in
       let u : InTurn config done events session later true begun_run kept.outs =
       subst (λ (v : Worker). InTurn config done events session v true begun_run kept.outs) (sym same)
@@ -272,7 +272,7 @@ module _ {config : Config} {run : List Entry} {event : Event} {session server re
       (ap (next config) r.here ∙ f.rests) (ap asking r.here ∙ f.unasking)
       (record { here = same session ∙ empty_seat b tt; apart = λ other apart. same other })
       (unmade_does now session (old.last_link + 1) refl refl refl b.bare.unobserved b.bare.unasked
-      ∙ ap (λ (l : ℕ). map Took (Close session Memory ∷ Drop l End ∷ [])) same_link)
+      ∙ ap (λ (l : ℕ). map done_as (Act (Close session Memory) ∷ Act (Drop l End) ∷ [])) same_link)
 
 -- The worker is told to begin a session
 

@@ -1,17 +1,14 @@
 -- How a session's turn ends, and what the worker stands for then.
-use Rattle.std.proofs.Common.{◌≡◌, ℕ, ◌+◌, ◌<◌, ◌^◌, Bool, true, false, not, List, [], ◌∷◌, ◌++◌, map, refl, sym, ap, subst, ◌∙◌, Option, Some, None, arith}
+use Rattle.std.proofs.Common.{◌≡◌, ℕ, ◌<◌, ◌^◌, Bool, true, false, not, List, [], ◌∷◌, ◌++◌, map, refl, sym, ap, subst, ◌∙◌, Option, Some, None, arith}
 use Rattle.std.proofs.lemmas.List.{append-nil}
 use Rattle.std.specs.BTreeMap.{BTreeMap, get}
 use Rattle.std.specs.Ordering.{nat_cmp}
-use Rattle.rws_board.specs.declared.action.Action.{Action}
 use Rattle.rws_board.specs.declared.event.Event.{Event}
 use Rattle.rws_board.specs.declared.interaction.Interaction.{Interaction}
-use Rattle.rws_board.specs.declared.interaction.Interaction.TheVariants.{Took}
 use Rattle.rws_config.specs.declared.config.Config.{Config}
+use Rattle.rws_record.specs.declared.output.Output.{Output}
 use Rattle.rws_record.specs.Item.{Item}
-use Rattle.rws_record.specs.Item.Item.{Puts}
-use Rattle.rws_record.specs.Item.Put.{Routes}
-use Rattle.rws_record.specs.Outputs.{actions_of}
+use Rattle.rws_record.specs.Outputs.{done_as, outputs_of}
 use Rattle.rws_record.specs.Values.{asking, is_over, is_starved, links}
 use Rattle.rws_record.specs.Rules.{next, owed}
 use Rattle.rws_record.specs.Record.{GoesOn, want_number}
@@ -28,7 +25,7 @@ use Rattle.rws_worker.specs.declared.ahead.Ahead.TheVariants.{Going}
 use Rattle.rws_worker.specs.declared.worker.Worker.{Worker}
 use Rattle.rws_worker.specs.declared.worker.telling.TurnEnd.{TurnEnd}
 use Rattle.rws_worker.specs.declared.worker.telling.TurnEnd.TheVariants as ends
-use Rattle.rws_worker.specs.Stepping.{from_of, IsBare, done_ahead, over_in, starved_in}
+use Rattle.rws_worker.specs.Stepping.{IsBare, done_ahead, over_in, starved_in}
 use Rattle.rws_worker.specs.Standing.{Advances}
 use Rattle.rws_worker.specs.InTurn.{InTurn}
 use Rattle.rws_worker.specs.Tallies.{Fits, plus, seven, tally_but, tally_in, tally_of}
@@ -42,12 +39,12 @@ use Rattle.rws_worker.proofs.WantLemmas.{Finished, ends_so, farewell_of, made_en
 -- Memory was wanting
 
 -- all that a session gave out that ended so
-abbrev pub given_by : (session : ℕ) → (over : Bool) → Lasting → List Action
+abbrev pub given_by : (session : ℕ) → (over : Bool) → Lasting → List Output
 given_by session over l = l.outs ++ ends_so session over (numbered l.want_number l.farewell) l.links
 
 -- the session is over, and rests
 pub record IsOver (config : Config) (done : List Interaction) (events : List Event) (session : ℕ) (worker : Worker) (placed : Bool)
-    (outs : List Action) : Type 0 where
+    (outs : List Output) : Type 0 where
   pub past : List Item
   pub reached : Reaches config done events session worker placed outs past
   pub rests : next config past ≡ None
@@ -55,13 +52,13 @@ pub record IsOver (config : Config) (done : List Interaction) (events : List Eve
   pub over : is_over past ≡ true
 
 module _ {config : Config} {done : List Interaction} {events : List Event} {session : ℕ} {worker : Worker} {placed : Bool} where
-  pub ends_at : {outs : List Action} {start : List Item} {actions : List Action}
-      → (f : Finished config session start actions) → Reaches config done events session worker placed outs f.reached
+  pub ends_at : {outs : List Output} {start : List Item} {more : List Output}
+      → (f : Finished config session start more) → Reaches config done events session worker placed outs f.reached
       → IsOver config done events session worker placed outs
   ends_at f r = record { past = f.reached; reached = r; rests = f.rests; unasking = f.unasking; over = f.over }
 
   -- it stands at this record, and of it lasts what lasts
-  pub wants_at : {now : List Entry} {outs : List Action} {past : List Item} → InTurn config done events session worker placed now outs
+  pub wants_at : {now : List Entry} {outs : List Output} {past : List Item} → InTurn config done events session worker placed now outs
       → record_of session now ≡ past → is_starved past ≡ false → asking past ≡ false → (over : Bool) → is_over past ≡ over
       → IsOver config done events session worker placed (given_by session over (lasting_of config session outs past))
   wants_at {now} {outs} {past} t at fed unasking true over =
@@ -73,10 +70,10 @@ module _ {config : Config} {done : List Interaction} {events : List Event} {sess
       (sym (farewell_of (want_number config past))) o
 
 -- a session that is over is forgotten
-module _ {config : Config} {done : List Interaction} {events : List Event} {session : ℕ} {mid : Worker} {placed : Bool} {outs : List Action}
+module _ {config : Config} {done : List Interaction} {events : List Event} {session : ℕ} {mid : Worker} {placed : Bool} {outs : List Output}
     (o : IsOver config done events session mid placed outs) where
   pub forgets_it : (sessions : BTreeMap ℕ Kept) (ahead : Ahead) (broken closing : Option ℕ) → Changes mid.sessions sessions session None
-      → done_ahead (record mid { sessions = sessions; ahead = ahead; broken = broken; closing = closing }) ≡ map Took outs
+      → done_ahead (record mid { sessions = sessions; ahead = ahead; broken = broken; closing = closing }) ≡ map done_as outs
       → Advances config done events (record mid { sessions = sessions; ahead = ahead; broken = broken; closing = closing })
   forgets_it sessions ahead broken closing changes acts =
       let r = o.reached in
@@ -94,7 +91,7 @@ module _ {config : Config} {done : List Interaction} {events : List Event} {sess
       subst (λ (v : Worker). Advances config done events v) (sym f.1)
       (forgets_it o new.sessions ahead (Some session) (Some session) f.0
       (broken_does now session kept (ap starved_in has) refl refl bare.unobserved bare.unasked (ap (λ (l : Lasting). l.farewell) lasts ∙ farewell)
-      ∙ ap (λ (l : Lasting). map Took (given_by session false l)) lasts))
+      ∙ ap (λ (l : Lasting). map done_as (given_by session false l)) lasts))
 
   pub starves_it : IsOver config done events session mid placed (given_by session true last)
       → Finishes ends.Starves session mid new → Advances config done events new
@@ -104,15 +101,15 @@ module _ {config : Config} {done : List Interaction} {events : List Event} {sess
       subst (λ (v : Worker). Advances config done events v) (sym f.1)
       (forgets_it o new.sessions ahead mid.broken mid.closing f.0
       (starved_does now session kept (ap starved_in has) bare.unbroken bare.unclosed bare.unobserved bare.unasked
-      ∙ ap (λ (l : Lasting). map Took (given_by session true l)) lasts))
+      ∙ ap (λ (l : Lasting). map done_as (given_by session true l)) lasts))
 
 -- A session that asked last, where memory was wanting, may as well not have asked.
 pub record Unasked (config : Config) (session : ℕ) (start reached : List Item) : Type 0 where
   pub at : List Item
   pub went_on : GoesOn config start at
   pub unasking : asking at ≡ false
-  pub given : actions_of session at ≡ actions_of session reached
-  pub lasts : (number : ℕ) (outs : List Action) → lasting_of config number outs reached ≡ lasting_of config number outs at
+  pub given : outputs_of session at ≡ outputs_of session reached
+  pub lasts : (number : ℕ) (outs : List Output) → lasting_of config number outs reached ≡ lasting_of config number outs at
 
 unasked : {config : Config} (session : ℕ) {start reached : List Item} → GoesOn config start reached → asking start ≡ false
     → Unasked config session start reached
@@ -126,13 +123,13 @@ unasked {config} session {start} (goes {now = mid} {item = item} went step) none
       at = mid;
       went_on = went;
       unasking = goes_unasking config mid item step;
-      given = subst (λ (i : Item). actions_of session mid ≡ actions_of session (i ∷ mid)) (sym is) (sym (append-nil (actions_of session mid)));
+      given = subst (λ (i : Item). outputs_of session mid ≡ outputs_of session (i ∷ mid)) (sym is) (sym (append-nil (outputs_of session mid)));
       lasts = λ n o. subst (λ (i : Item). lasting_of config n o (i ∷ mid) ≡ lasting_of config n o mid) (sym is) refl;
     }
 
 -- What is open is counted with a session that goes on
 pub counted : {config : Config} {done : List Interaction} {events : List Event} {session : ℕ} {worker : Worker} {placed : Bool} {now : List Entry}
-    {outs : List Action} → InTurn config done events session worker placed now outs → (kept : Kept) (new : Worker)
+    {outs : List Output} → InTurn config done events session worker placed now outs → (kept : Kept) (new : Worker)
     → get nat_cmp worker.sessions session ≡ Some kept → Is config kept (record_of session now) → is_live (record_of session now) ≡ true
     → CountsIn (get nat_cmp worker.sessions session) worker new → new.tallies ≡ seven (λ server. tally_of now server)
 counted {config} {session = session} {worker} {now = now} t kept new has is live counts =
@@ -157,8 +154,8 @@ module _ {config : Config} {done : List Interaction} {events : List Event} {sess
   -- it rests, or asks
   got_to : {asks : Bool} (s : Settles config start kept kept' asks) → Reaches config done events session mid true kept'.outs s.reached
   got_to s =
-      subst (λ (xs : List Action). Reaches config done events session mid true xs s.reached) (sym s.waits)
-      (reaches t at plain s.went_on s.more (subst (λ (n : ℕ). actions_of n s.reached ≡ actions_of n start ++ s.more) numbered_so s.given))
+      subst (λ (xs : List Output). Reaches config done events session mid true xs s.reached) (sym s.waits)
+      (reaches t at plain s.went_on s.more (subst (λ (n : ℕ). outputs_of n s.reached ≡ outputs_of n start ++ s.more) numbered_so s.given))
 
   goes_or_asks : (asks : Bool) (new : Worker) (s : Settles config start kept kept' asks) → is_over s.reached ≡ false
       → CountsIn (get nat_cmp mid.sessions session) mid new
@@ -179,7 +176,7 @@ module _ {config : Config} {done : List Interaction} {events : List Event} {sess
   broke_at over off over_is =
       let u = unasked session off.went_on silent in
       let r = reaches t at plain u.went_on off.more
-      (u.given ∙ subst (λ (n : ℕ). actions_of n off.reached ≡ actions_of n start ++ off.more) numbered_so off.given) in
+      (u.given ∙ subst (λ (n : ℕ). outputs_of n off.reached ≡ outputs_of n start ++ off.more) numbered_so off.given) in
       let over_there : is_over u.at ≡ over =
       sym (ap (λ (l : Lasting). l.over) (u.lasts kept.number (kept.outs ++ off.more))) ∙ sym (ap (λ (l : Lasting). l.over) off.lasts) ∙ over_is in
       subst (λ (l : Lasting). IsOver config done events session mid true (given_by session over l)) (sym (u.lasts session (kept.outs ++ off.more)))

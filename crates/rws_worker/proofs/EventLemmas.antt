@@ -1,24 +1,21 @@
 -- What the worker stands for where nobody is in turn, and where a session hears something.
-use Rattle.std.proofs.Common.{◌≡◌, ℕ, ◌+◌, ◌<◌, ⊎_elim, max, Bool, true, false, not, List, [], ◌∷◌, ◌++◌, drop, map, refl, sym, ap, subst, ◌∙◌, Option, Some, None, arith, append_assoc}
+use Rattle.std.proofs.Common.{◌≡◌, ℕ, max, Bool, true, false, not, List, [], ◌∷◌, ◌++◌, drop, refl, sym, ap, subst, ◌∙◌, Option, Some, None, arith}
 use Rattle.std.proofs.lemmas.List.{append-nil}
 use Rattle.std.specs.BTreeMap.{get}
 use Rattle.std.specs.Ordering.{nat_cmp}
 use Rattle.rws_board.specs.declared.event.Event.{Event}
 use Rattle.rws_board.specs.declared.event.Event.TheVariants as events
 use Rattle.rws_board.specs.declared.interaction.Interaction.{Interaction}
-use Rattle.rws_board.specs.declared.interaction.Interaction.TheVariants.{Took, Told as Tells}
+use Rattle.rws_board.specs.declared.interaction.Interaction.TheVariants.{Told as Tells}
 use Rattle.rws_board.specs.Boards.{given}
 use Rattle.rws_pool.specs.declared.events.PoolCall.TheVariants.{Observe}
 use Rattle.rws_pool.specs.declared.words.Round.{Round}
 use Rattle.rws_config.specs.declared.config.Config.{Config}
 use Rattle.rws_record.specs.Item.{Item}
 use Rattle.rws_record.specs.Values.{asking, contains, is_over, links, opens}
-use Rattle.rws_record.specs.Rules.{◌or◌}
-use Rattle.rws_record.specs.Run.{Entry, IsRun, answer_of, begun, next_entry, record_of, is_live, begun_by, events_of, greatest, hearer, last_clock, observing, reading_by, round_of, step_of, told_by, unobserved, untold, hearing}
+use Rattle.rws_record.specs.Run.{Entry, begun, next_entry, record_of, is_live, begun_by, events_of, greatest, last_clock, observing, reading_by, round_of, untold}
 use Rattle.rws_record.specs.Run.Entry.{Came, Heard, Observes}
 use Rattle.rws_record.specs.Run.IsRun.{came, goes_on}
-use Rattle.rws_session.specs.Kept.{Kept}
-use Rattle.rws_worker.specs.declared.ahead.Ahead.TheVariants.{Nothing}
 use Rattle.rws_worker.specs.declared.asker.Asker.TheVariants.{Nobody}
 use Rattle.rws_worker.specs.declared.tally.Tally.{Tally}
 use Rattle.rws_worker.specs.declared.worker.Worker.{Worker}
@@ -27,8 +24,8 @@ use Rattle.rws_worker.specs.Standing.{Advances, Gives, IsBehind, SeatStands, ToT
 use Rattle.rws_worker.specs.InTurn.{InTurn, IsBetween, asks_outside}
 use Rattle.rws_worker.specs.Tallies.{seven, tally_but}
 use Rattle.rws_worker.proofs.RecordLemmas.{heard_apart, heard_here, heard_last, heard_owners, still_has}
-use Rattle.rws_worker.proofs.StepsLemmas.{bare_goes_none, bare_has_none, bare_has_none_behind}
-use Rattle.rws_worker.proofs.TallyLemmas.{seven_same, tally_kept}
+use Rattle.rws_worker.proofs.StepsLemmas.{bare_goes_none, bare_has_none_behind}
+use Rattle.rws_worker.proofs.TallyLemmas.{tally_kept}
 use Rattle.rws_worker.proofs.TurnLemmas.{seat_kept, still_tells}
 
 -- Nobody is in turn

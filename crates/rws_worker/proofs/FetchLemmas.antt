@@ -1,28 +1,56 @@
 -- What is fetched next.
-use Rattle.std.proofs.Common.{◌≡◌, ℕ, ◌+◌, ◌≤◌, ◌^◌, true, false, List, [], ◌∷◌, ◌++◌, map, refl, sym, ap, subst, ◌∙◌, Option, Some, None, append_assoc, arith}
+use Rattle.std.proofs.Common.{◌≡◌, ℕ, false, List, [], ◌∷◌, ◌++◌, map, refl, sym, ap, subst, ◌∙◌, Option, Some, None, arith}
 use Rattle.std.proofs.lemmas.List.{append-nil}
-use Rattle.rws_board.specs.declared.action.Action.{Action}
 use Rattle.rws_board.specs.declared.interaction.Interaction.{Interaction}
 use Rattle.rws_pool.specs.declared.words.Round.{Round}
 use Rattle.rws_config.specs.declared.config.Config.{Config}
+use Rattle.rws_record.specs.declared.output.Output.{Output}
+use Rattle.rws_record.specs.declared.output.Output.TheVariants as outputs
 use Rattle.rws_record.specs.Run.{Entry, events_of}
 use Rattle.rws_worker.specs.declared.ahead.Ahead.TheVariants.{Nothing}
 use Rattle.rws_worker.specs.declared.asker.Asker.{Asker}
 use Rattle.rws_worker.specs.declared.asker.Asker.TheVariants.{Nobody, Asks, Awaits}
-use Rattle.rws_worker.specs.declared.asker.Telling.{Telling}
 use Rattle.rws_worker.specs.declared.asker.Telling.TheVariants.{Told as AllTold}
 use Rattle.rws_worker.proofs.StepsLemmas.{bare_has_none, bare_on}
 use Rattle.rws_worker.specs.declared.step.Step.{Step}
 use Rattle.rws_worker.specs.declared.step.Step.TheVariants.{Idle, Act, Call, Broken, Spent}
 use Rattle.rws_worker.specs.declared.worker.Worker.{Worker}
 use Rattle.rws_worker.specs.Standing.{Advances, EndsAt, Steps, StepsOn, WorkerStands, interactions_of}
-use Rattle.rws_worker.specs.Stepping.{Fetches, Routes, from_of, all_done_for, asker_in, calls_by, done_ahead, done_for, drops, endings, endings_by, farewell_ahead, is_awaiting, is_route, links_ahead, outs_ahead, routes_by, steps_ahead}
+use Rattle.rws_worker.specs.Stepping.{Fetches, Routes, from_of, all_done_for, asker_in, calls_by, done_ahead, endings, endings_by, farewell_ahead, is_awaiting, is_route, links_ahead, outs_ahead, routes_by, step_for, steps_ahead}
 
 -- where no round is to be taken in, and all outputs are fetched
 pub behind_outs : (worker : Worker) → worker.observed ≡ None → outs_ahead worker ≡ [] → steps_ahead worker ≡ routes_by worker.asker ++ endings worker
 behind_outs worker uncalled none =
-    ap (λ (o : Option Round). calls_by o ++ (map Act (outs_ahead worker) ++ (routes_by worker.asker ++ endings worker))) uncalled
-    ∙ ap (λ (outs : List Action). map Act outs ++ (routes_by worker.asker ++ endings worker)) none
+    ap (λ (o : Option Round). calls_by o ++ (map step_for (outs_ahead worker) ++ (routes_by worker.asker ++ endings worker))) uncalled
+    ∙ ap (λ (outs : List Output). map step_for outs ++ (routes_by worker.asker ++ endings worker)) none
+
+-- something that a session gave out
+module _ (old mid new : Worker) (output : Output) (uncalled : old.observed ≡ None) (first : outs_ahead old ≡ output ∷ outs_ahead mid)
+    (rest : mid ≡ record old { sessions = mid.sessions; ahead = mid.ahead }) (same : endings mid ≡ endings old)
+    (released : new ≡ record mid { owners = new.owners }) (waits : is_awaiting old.asker ≡ false) where
+  asker_same : new.asker ≡ old.asker
+  asker_same = ap (λ (v : Worker). v.asker) released ∙ ap (λ (v : Worker). v.asker) rest
+
+  behind_first : steps_ahead new ≡ map step_for (outs_ahead mid) ++ (routes_by old.asker ++ endings old)
+  behind_first =
+      ap steps_ahead released
+      ∙ ap (λ (o : Option Round). calls_by o ++ (map step_for (outs_ahead mid) ++ (routes_by mid.asker ++ endings mid)))
+      (ap (λ (v : Worker). v.observed) rest ∙ uncalled)
+      ∙ ap (λ (a : Asker). map step_for (outs_ahead mid) ++ (routes_by a ++ endings mid)) (ap (λ (v : Worker). v.asker) rest)
+      ∙ ap (λ (list : List Step). map step_for (outs_ahead mid) ++ (routes_by old.asker ++ list)) same
+
+  first_is : steps_ahead old ≡ step_for output ∷ steps_ahead new
+  first_is =
+      ap (λ (o : Option Round). calls_by o ++ (map step_for (outs_ahead old) ++ (routes_by old.asker ++ endings old))) uncalled
+      ∙ ap (λ (outs : List Output). map step_for outs ++ (routes_by old.asker ++ endings old)) first
+      ∙ ap (λ (list : List Step). step_for output ∷ list) (sym behind_first)
+
+  by_output : (its : Output) → steps_ahead old ≡ step_for its ∷ steps_ahead new → Fetches (Some (step_for its)) old new
+  by_output (outputs.Act action) e = (e, ap is_awaiting asker_same ∙ waits)
+  by_output (outputs.Record server gtid) e = (e, ap is_awaiting asker_same ∙ waits)
+
+  pub out_fetches : (step : Step) → step ≡ step_for output → Fetches (Some step) old new
+  out_fetches step is = subst (λ (its : Step). Fetches (Some its) old new) (sym is) (by_output output first_is)
 
 asker_by : (asker : Asker) (step : Step) (others : List Step) → routes_by asker ≡ step ∷ others → asker_in asker ≡ None → ⊥
 asker_by Nobody step others e none = cc

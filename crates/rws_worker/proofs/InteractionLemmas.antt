@@ -1,26 +1,33 @@
 -- What passes between a worker and its board in a run: the events that the run heard, and what it did.
-use Rattle.std.proofs.Common.{◌≡◌, ℕ, ◌≤◌, ◌⊎◌, inl, inr, arith, length, length-append, List, [], ◌∷◌, ◌++◌, map, refl, sym, ap, ◌∙◌, None}
+use Rattle.std.proofs.Common.{◌≡◌, ℕ, ◌≤◌, ◌⊎◌, inl, inr, arith, length, length-append, List, [], ◌∷◌, ◌++◌, map, refl, sym, ap, subst, ◌∙◌, None}
 use Rattle.std.proofs.lemmas.List.{append-nil, append_cancel_right}
-use Rattle.std.specs.List.{flat_map}
+use Rattle.std.specs.List.{AllByRecursion, flat_map}
 use Rattle.rws_board.specs.Boards.{events_given, given}
 use Rattle.rws_board.proofs.JoinLemmas.{events_given-append}
-use Rattle.rws_board.specs.declared.action.Action.{Action}
+use Rattle.rws_wire.specs.Packets.{spelling}
+use Rattle.rws_board.specs.declared.action.Action.TheVariants.{ToLink}
 use Rattle.rws_board.specs.declared.event.Event.{Event}
 use Rattle.rws_board.specs.declared.event.Event.TheVariants as events
 use Rattle.rws_board.specs.declared.interaction.Interaction.{Interaction}
 use Rattle.rws_board.specs.declared.interaction.Interaction.TheVariants.{Gave, Took, Told}
 use Rattle.rws_pool.specs.declared.events.PoolCall.{PoolCall}
-use Rattle.rws_pool.specs.declared.events.PoolCall.TheVariants.{Observe, Route}
+use Rattle.rws_pool.specs.declared.events.PoolCall.TheVariants as pool
+use Rattle.rws_pool.specs.declared.events.PoolCall.TheVariants.{Observe}
 use Rattle.rws_pool.specs.declared.events.PoolEvent.{PoolEvent}
+use Rattle.rws_pool.specs.declared.events.PoolEvent.TheVariants.{Route, Record, Observe as ObserveEvent}
 use Rattle.rws_pool.specs.declared.words.PoolWords.{PoolWords}
 use Rattle.rws_pool.specs.declared.words.Round.{Round}
 use Rattle.rws_pool.specs.History.{event_of}
-use Rattle.rws_pool.specs.Machine.{pool_from, pool_step}
+use Rattle.rws_pool.specs.Machine.{CanStep, pool_from, pool_step}
 use Rattle.rws_config.specs.declared.config.Config.{Config}
+use Rattle.rws_record.specs.declared.output.Output.{Output}
+use Rattle.rws_record.specs.declared.output.Output.TheVariants as outputs
+use Rattle.rws_record.specs.declared.output.Output.TheVariants.{Act}
 use Rattle.rws_record.specs.Item.{Item, Put}
 use Rattle.rws_record.specs.Item.Item.{Accepted, TurnsAway, Began, ClientBytes, LinkReady, LinkBytes, ClientGone, LinkLost, Ticks, Routed, Comes, Connects, Takes, Floods, Puts, Starves}
-use Rattle.rws_record.specs.Item.Put.{Hands, Tells, Routes, Opens, LogsInto, Sends, Forgets, Drops, Closes}
-use Rattle.rws_record.specs.Outputs.{calls_of, done_for as done_by, outs_of}
+use Rattle.rws_record.specs.Item.Put.{Hands, Tells, Records, Routes, Opens, LogsInto, Sends, Forgets, Drops, Closes}
+use Rattle.rws_record.specs.Outputs.{calls_of, done_as, done_for as done_by, outs_of}
+use Rattle.rws_record.specs.Values.{sent_for}
 use Rattle.rws_record.specs.Run.{Entry, IsRun, next_entry, record_of, events_of, done_in, pool_events_of}
 use Rattle.rws_record.specs.Run.Entry.{Came, Heard, Did, Observes}
 use Rattle.rws_record.specs.Run.IsRun.{starts, came, goes_on, starves}
@@ -29,21 +36,19 @@ use Rattle.rws_record.proofs.EntryLemmas.Next.{did as goes_by, answered as goes_
 use Rattle.rws_worker.specs.Standing.{interactions_of, without_gave}
 use Rattle.rws_worker.specs.Working.{events_told}
 
--- actions alone give no event, and are taken as they are
+-- what sessions give out gives no event, and is taken as it is
 
-takes_give_none : (actions : List Action) → events_given (map Took actions) ≡ []
-takes_give_none [] = refl
-takes_give_none (action ∷ actions) = takes_give_none actions
+outs_give_none : (outs : List Output) → events_given (map done_as outs) ≡ []
+outs_give_none [] = refl
+outs_give_none (Act action ∷ outs) = outs_give_none outs
+outs_give_none (outputs.Record server gtid ∷ outs) = outs_give_none outs
 
-takes_are_taken : (actions : List Action) → without_gave (map Took actions) ≡ map Took actions
-takes_are_taken [] = refl
-takes_are_taken (action ∷ actions) = ap (λ (xs : List Interaction). Took action ∷ xs) (takes_are_taken actions)
+outs_are_left : (outs : List Output) → without_gave (map done_as outs) ≡ map done_as outs
+outs_are_left [] = refl
+outs_are_left (Act action ∷ outs) = ap (λ (xs : List Interaction). Took action ∷ xs) (outs_are_left outs)
+outs_are_left (outputs.Record server gtid ∷ outs) = ap (λ (xs : List Interaction). Told (pool.Record server gtid) ∷ xs) (outs_are_left outs)
 
-takes_tell_none : (actions : List Action) → events_told (map Took actions) ≡ []
-takes_tell_none [] = refl
-takes_tell_none (action ∷ actions) = takes_tell_none actions
-
--- nor do calls, and the words take nothing of a Route
+-- nor do calls
 
 calls_give_none : (calls : List PoolCall) → events_given (map Told calls) ≡ []
 calls_give_none [] = refl
@@ -55,8 +60,8 @@ calls_are_left (call ∷ calls) = ap (λ (xs : List Interaction). Told call ∷ 
 
 pub done_gives_none : (session : ℕ) (item : Item) (past : List Item) → events_given (done_by session item past) ≡ []
 done_gives_none session item past =
-    events_given-append (map Took (outs_of session item past)) (map Told (calls_of session item))
-    ∙ ap (λ (xs : List Event). xs ++ events_given (map Told (calls_of session item))) (takes_give_none (outs_of session item past))
+    events_given-append (map done_as (outs_of session item past)) (map Told (calls_of session item))
+    ∙ ap (λ (xs : List Event). xs ++ events_given (map Told (calls_of session item))) (outs_give_none (outs_of session item past))
     ∙ calls_give_none (calls_of session item)
 
 -- an event that is given is left out, and none of the words takes anything of it
@@ -172,9 +177,9 @@ without_gave-run (Did session item ∷ run) =
     let done = done_by session item (record_of session run) in
     without_gave-append (interactions_of run) done
     ∙ ap (λ (xs : List Interaction). without_gave (interactions_of run) ++ xs)
-    (without_gave-append (map Took outs) (map Told calls)
-    ∙ ap (λ (xs : List Interaction). xs ++ without_gave (map Told calls)) (takes_are_taken outs)
-    ∙ ap (λ (xs : List Interaction). map Took outs ++ xs) (calls_are_left calls))
+    (without_gave-append (map done_as outs) (map Told calls)
+    ∙ ap (λ (xs : List Interaction). xs ++ without_gave (map Told calls)) (outs_are_left outs)
+    ∙ ap (λ (xs : List Interaction). map done_as outs ++ xs) (calls_are_left calls))
     ∙ ap (λ (xs : List Interaction). xs ++ done) (without_gave-run run)
 without_gave-run (Observes round ∷ run) =
     without_gave-append (interactions_of run) (Told (Observe round) ∷ [])
@@ -197,78 +202,103 @@ events_told-append (Gave event ∷ xs) ys = events_told-append xs ys
 events_told-append (Took action ∷ xs) ys = events_told-append xs ys
 events_told-append (Told call ∷ xs) ys = ap (λ (zs : List PoolEvent). event_of call ∷ zs) (events_told-append xs ys)
 
--- each of them asks for the words
-abbrev AreRoutes : List PoolCall → Type 0
-AreRoutes [] = Unit {0}
-AreRoutes (Route session ∷ calls) = AreRoutes calls
-AreRoutes (_ ∷ calls) = ⊥
-
 pub pool_from-append : (words : PoolWords) (xs ys : List PoolEvent) → pool_from words (xs ++ ys) ≡ pool_from (pool_from words xs) ys
 pool_from-append words [] ys = refl
 pool_from-append words (event ∷ xs) ys = pool_from-append (pool_step words event) xs ys
 
--- the words take nothing of what a session does
+-- What is told in a run is what the words take in it, but for the questions for them, by which they don't change.
 
-routes_by_calls : (calls : List PoolCall) → (words : PoolWords) → AreRoutes calls → pool_from words (events_told (map Told calls)) ≡ words
-routes_by_calls [] words are = refl
-routes_by_calls (Route session ∷ calls) words are = routes_by_calls calls words are
-routes_by_calls (_ ∷ calls) words are = absurd are
+abbrev pub without_routes : List PoolEvent → List PoolEvent
+without_routes [] = []
+without_routes (Route ∷ taken) = without_routes taken
+without_routes (event ∷ taken) = event ∷ without_routes taken
 
-put_routes : (session : ℕ) (put : Put) → AreRoutes (calls_of session (Puts put))
-put_routes session Routes = tt
-put_routes session (Hands packets) = tt
-put_routes session (Tells number tell) = tt
-put_routes session (Opens link server login) = tt
-put_routes session (LogsInto link packets) = tt
-put_routes session (Sends link purpose) = tt
-put_routes session (Forgets link id) = tt
-put_routes session (Drops link cause) = tt
-put_routes session (Closes reason) = tt
+without_routes-append : (xs ys : List PoolEvent) → without_routes (xs ++ ys) ≡ without_routes xs ++ without_routes ys
+without_routes-append [] ys = refl
+without_routes-append (Route ∷ xs) ys = without_routes-append xs ys
+without_routes-append (Record server gtid ∷ xs) ys = ap (λ (zs : List PoolEvent). Record server gtid ∷ zs) (without_routes-append xs ys)
+without_routes-append (ObserveEvent round ∷ xs) ys = ap (λ (zs : List PoolEvent). ObserveEvent round ∷ zs) (without_routes-append xs ys)
 
-are_routes : (session : ℕ) (item : Item) → AreRoutes (calls_of session item)
-are_routes session (Puts put) = put_routes session put
-are_routes session (Accepted number scramble reading) = tt
-are_routes session (TurnsAway told) = tt
-are_routes session (Began link server reading) = tt
-are_routes session (ClientBytes bytes) = tt
-are_routes session (LinkReady link) = tt
-are_routes session (LinkBytes link bytes) = tt
-are_routes session ClientGone = tt
-are_routes session (LinkLost link) = tt
-are_routes session (Ticks reading) = tt
-are_routes session (Routed words loads next found) = tt
-are_routes session (Comes link said) = tt
-are_routes session (Connects said) = tt
-are_routes session (Takes judged number) = tt
-are_routes session (Floods held) = tt
-are_routes session (Starves made number) = tt
+-- of what goes to a server they take nothing
+sending_tells_none : (link : ℕ) (payloads : List (List ℕ))
+    → events_told (map done_as (map (λ payload. Act (ToLink link (spelling 0 payload))) payloads) ++ []) ≡ []
+sending_tells_none link [] = refl
+sending_tells_none link (payload ∷ others) = sending_tells_none link others
 
-taken_alike : (session : ℕ) (item : Item) (past : List Item) (words : PoolWords) → pool_from words (events_told (done_by session item past)) ≡ words
-taken_alike session item past words =
-    let outs = outs_of session item past in let calls = calls_of session item in
-    ap (pool_from words) (events_told-append (map Took outs) (map Told calls)
-    ∙ ap (λ (xs : List PoolEvent). xs ++ events_told (map Told calls)) (takes_tell_none outs))
-    ∙ routes_by_calls calls words (are_routes session item)
+module _ (session : ℕ) (run : List Entry) where
+  abbrev IsTaken : Item → Type 0
+  IsTaken item =
+      pool_events_of run ++ without_routes (events_told (done_by session item (record_of session run))) ≡ pool_events_of (Did session item ∷ run)
 
--- what the words take of all that is told in a run is what they take in it
-pub words_told : (words : PoolWords) (run : List Entry) → pool_from words (events_told (interactions_of run)) ≡ pool_from words (pool_events_of run)
-words_told words [] = refl
-words_told words (Came event ∷ run) =
-    ap (pool_from words) (events_told-append (interactions_of run) (given event)
+  put_is_taken : (put : Put) → IsTaken (Puts put)
+  put_is_taken (Records server gtid) = refl
+  put_is_taken (Sends link purpose) =
+      ap (λ (taken : List PoolEvent). pool_events_of run ++ without_routes taken) (sending_tells_none link (sent_for purpose))
+      ∙ append-nil (pool_events_of run)
+  put_is_taken Routes = append-nil (pool_events_of run)
+  put_is_taken (Hands packets) = append-nil (pool_events_of run)
+  put_is_taken (Tells number tell) = append-nil (pool_events_of run)
+  put_is_taken (Opens link server login) = append-nil (pool_events_of run)
+  put_is_taken (LogsInto link packets) = append-nil (pool_events_of run)
+  put_is_taken (Forgets link id) = append-nil (pool_events_of run)
+  put_is_taken (Drops link cause) = append-nil (pool_events_of run)
+  put_is_taken (Closes reason) = append-nil (pool_events_of run)
+
+  is_taken : (item : Item) → IsTaken item
+  is_taken (Puts put) = put_is_taken put
+  is_taken (Accepted number scramble reading) = append-nil (pool_events_of run)
+  is_taken (TurnsAway told) = append-nil (pool_events_of run)
+  is_taken (Began link server reading) = append-nil (pool_events_of run)
+  is_taken (ClientBytes bytes) = append-nil (pool_events_of run)
+  is_taken (LinkReady link) = append-nil (pool_events_of run)
+  is_taken (LinkBytes link bytes) = append-nil (pool_events_of run)
+  is_taken ClientGone = append-nil (pool_events_of run)
+  is_taken (LinkLost link) = append-nil (pool_events_of run)
+  is_taken (Ticks reading) = append-nil (pool_events_of run)
+  is_taken (Routed words loads next found) = append-nil (pool_events_of run)
+  is_taken (Comes link said) = append-nil (pool_events_of run)
+  is_taken (Connects said) = append-nil (pool_events_of run)
+  is_taken (Takes judged number) = append-nil (pool_events_of run)
+  is_taken (Floods held) = append-nil (pool_events_of run)
+  is_taken (Starves made number) = append-nil (pool_events_of run)
+
+told_is_taken : (run : List Entry) → without_routes (events_told (interactions_of run)) ≡ pool_events_of run
+told_is_taken [] = refl
+told_is_taken (Came event ∷ run) =
+    ap without_routes (events_told-append (interactions_of run) (given event)
     ∙ ap (λ (xs : List PoolEvent). events_told (interactions_of run) ++ xs) (given_tells_none event)
-    ∙ append-nil (events_told (interactions_of run))) ∙ words_told words run
-words_told words (Heard session item ∷ run) = words_told words run
-words_told words (Did session item ∷ run) =
+    ∙ append-nil (events_told (interactions_of run))) ∙ told_is_taken run
+told_is_taken (Heard session item ∷ run) = told_is_taken run
+told_is_taken (Did session item ∷ run) =
     let done = done_by session item (record_of session run) in
-    ap (pool_from words) (events_told-append (interactions_of run) done)
-    ∙ pool_from-append words (events_told (interactions_of run)) (events_told done)
-    ∙ taken_alike session item (record_of session run) (pool_from words (events_told (interactions_of run)))
-    ∙ words_told words run
-words_told words (Observes round ∷ run) =
-    ap (pool_from words) (events_told-append (interactions_of run) (Told (Observe round) ∷ []))
-    ∙ pool_from-append words (events_told (interactions_of run)) (event_of (Observe round) ∷ [])
-    ∙ ap (λ (w : PoolWords). pool_step w (event_of (Observe round))) (words_told words run)
-    ∙ sym (pool_from-append words (pool_events_of run) (event_of (Observe round) ∷ []))
+    ap without_routes (events_told-append (interactions_of run) done)
+    ∙ without_routes-append (events_told (interactions_of run)) (events_told done)
+    ∙ ap (λ (xs : List PoolEvent). xs ++ without_routes (events_told done)) (told_is_taken run) ∙ is_taken session run item
+told_is_taken (Observes round ∷ run) =
+    ap without_routes (events_told-append (interactions_of run) (Told (pool.Observe round) ∷ []))
+    ∙ without_routes-append (events_told (interactions_of run)) (ObserveEvent round ∷ [])
+    ∙ ap (λ (xs : List PoolEvent). xs ++ ObserveEvent round ∷ []) (told_is_taken run)
+
+taken_alike : (words : PoolWords) (events : List PoolEvent) → pool_from words events ≡ pool_from words (without_routes events)
+taken_alike words [] = refl
+taken_alike words (Route ∷ events) = taken_alike words events
+taken_alike words (Record server gtid ∷ events) = taken_alike (pool_step words (Record server gtid)) events
+taken_alike words (ObserveEvent round ∷ events) = taken_alike (pool_step words (ObserveEvent round)) events
+
+pub words_told : (words : PoolWords) (run : List Entry) → pool_from words (events_told (interactions_of run)) ≡ pool_from words (pool_events_of run)
+words_told words run = taken_alike words (events_told (interactions_of run)) ∙ ap (pool_from words) (told_is_taken run)
+
+-- they can take all that is told where they can take what they take
+all_can : (domain : ℕ) (events : List PoolEvent) → AllByRecursion (CanStep domain) (without_routes events) → AllByRecursion (CanStep domain) events
+all_can domain [] can = tt
+all_can domain (Route ∷ events) can = (tt, all_can domain events can)
+all_can domain (Record server gtid ∷ events) can = (can.0, all_can domain events can.1)
+all_can domain (ObserveEvent round ∷ events) can = (tt, all_can domain events can.1)
+
+pub told_can : (domain : ℕ) (run : List Entry) → AllByRecursion (CanStep domain) (pool_events_of run)
+    → AllByRecursion (CanStep domain) (events_told (interactions_of run))
+told_can domain run can =
+    all_can domain (events_told (interactions_of run)) (subst (λ (events : List PoolEvent). AllByRecursion (CanStep domain) events) (sym (told_is_taken run)) can)
 
 -- A front of what passes in a run is a front of what passes in one that heard no more events.
 

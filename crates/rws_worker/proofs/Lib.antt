@@ -2,6 +2,8 @@ pub mod MapLemmas
 pub mod RecordLemmas
 pub mod WantLemmas
 pub mod InteractionLemmas
+-- what the words take in a run they can take
+pub mod CommitLemmas
 pub mod CountLemmas
 pub mod TallyLemmas
 pub mod StepsLemmas

@@ -4,7 +4,7 @@ use Rattle.std.proofs.lemmas.Bool.{ne_eqb, eq-eqb}
 use Rattle.rws_config.specs.declared.config.Config.{Config}
 use Rattle.rws_record.specs.Item.{Item}
 use Rattle.rws_record.specs.Item.Item.{Accepted, TurnsAway, Began, ClientBytes, LinkReady, LinkBytes, ClientGone, LinkLost, Ticks, Routed, Comes, Connects, Takes, Floods, Puts, Starves}
-use Rattle.rws_record.specs.Item.Put.{Hands, Tells, Routes, Opens, LogsInto, Sends, Forgets, Drops, Closes}
+use Rattle.rws_record.specs.Item.Put.{Hands, Tells, Records, Routes, Opens, LogsInto, Sends, Forgets, Drops, Closes}
 use Rattle.rws_record.specs.Values.{opens, links, contains, without}
 use Rattle.rws_record.specs.Run.{Entry, IsRun, record_of, owner, owner_by, last_link, link_by}
 use Rattle.rws_record.specs.Run.Entry.{Heard, Did}
@@ -97,6 +97,7 @@ still_has (Floods bytes) past link none e = e
 still_has (Starves made number) past link none e = e
 still_has (Puts (Hands packets)) past link none e = e
 still_has (Puts (Tells number tell)) past link none e = e
+still_has (Puts (Records server gtid)) past link none e = e
 still_has (Puts Routes) past link none e = e
 still_has (Puts (Opens its server login)) past link none e = absurd cc
 still_has (Puts (LogsInto to packets)) past link none e = e

@@ -1,19 +1,18 @@
 -- Each run as far as it came goes on to one that rests: where nothing else is known, memory is wanting to whoever is in turn.
-use Rattle.std.proofs.Common.{◌≡◌, ℕ, Bool, true, false, List, [], ◌∷◌, ◌++◌, drop, refl, sym, ap, subst, ◌∙◌, Option, Some, None, append_assoc, ◌⊎◌, inl, inr}
-use Rattle.std.proofs.lemmas.Bool.{eq-eqb}
+use Rattle.std.proofs.Common.{◌≡◌, ℕ, Bool, true, false, List, [], ◌∷◌, ◌++◌, drop, refl, sym, ap, ◌∙◌, Some, None, append_assoc, ◌⊎◌, inl, inr}
 use Rattle.std.proofs.lemmas.List.{append-nil}
 use Rattle.rws_board.proofs.JoinLemmas.{events_given-append}
 use Rattle.rws_board.specs.Boards.{events_given}
-use Rattle.rws_board.specs.declared.action.Action.{Action}
 use Rattle.rws_board.specs.declared.event.Event.{Event}
 use Rattle.rws_board.specs.declared.interaction.Interaction.{Interaction}
 use Rattle.rws_config.specs.declared.config.Config.{Config}
+use Rattle.rws_record.specs.declared.output.Output.{Output}
 use Rattle.rws_record.specs.Item.{Item}
 use Rattle.rws_record.specs.Item.Item.{Accepted, TurnsAway, Began, Starves}
 use Rattle.rws_record.specs.Outputs.{done_for as done_by}
 use Rattle.rws_record.specs.Record.{GoesOn, IsBeginning, IsRecord, want_number}
 use Rattle.rws_record.specs.Record.GoesOn.{stays, then as goes}
-use Rattle.rws_record.specs.Rules.{next, ◌or◌}
+use Rattle.rws_record.specs.Rules.{next}
 use Rattle.rws_record.specs.Values.{asking, is_over, is_starved}
 use Rattle.rws_record.specs.Run.{Entry, IsRun, answer_of, events_of, hearer, is_live, next_entry, record_of, step_of, unobserved, untold}
 use Rattle.rws_record.specs.Run.Entry.{Heard, Did}
@@ -108,7 +107,7 @@ ends_it {config} {run} legal session h fed observed = by_over (is_over past) ref
     number : ℕ
     number = want_number config (record_of session run)
 
-    finishes : {actions : List Action} → Finished config session (Starves true (want_number config (record_of session run)) ∷ record_of session run) actions → IsEnded config run
+    finishes : {outs : List Output} → Finished config session (Starves true (want_number config (record_of session run)) ∷ record_of session run) outs → IsEnded config run
     finishes f =
         let item : Item = Starves true (want_number config (record_of session run)) in
         let l = steps_on (starves legal h fed tt refl) h (did_here session item run) f.went_on in

@@ -1,23 +1,20 @@
 -- The worker stands for the same run while what came of it is fetched.
-use Rattle.std.proofs.Common.{◌≡◌, ℕ, ◌+◌, ◌<◌, ◌≤◌, ◌^◌, ⊎_elim, Bool, true, false, List, [], ◌∷◌, ◌++◌, map, refl, sym, ap, subst, ◌∙◌, Option, Some, None, MatchOption, arith, append_assoc}
+use Rattle.std.proofs.Common.{◌≡◌, ℕ, ◌+◌, ◌<◌, ◌^◌, ⊎_elim, Bool, true, false, List, [], ◌∷◌, refl, sym, ap, subst, ◌∙◌, Option, Some, None, MatchOption}
 use Rattle.std.proofs.lemmas.Bool.{cases_eq, eq-eqb, ne_eqb}
-use Rattle.std.proofs.lemmas.List.{append-nil}
 use Rattle.std.specs.BTreeMap.{BTreeMap, get}
 use Rattle.std.specs.Ordering.{nat_cmp}
-use Rattle.rws_board.specs.declared.action.Action.{Action}
-use Rattle.rws_board.specs.declared.interaction.Interaction.{Interaction}
 use Rattle.rws_pool.specs.declared.words.Round.{Round}
 use Rattle.rws_config.specs.declared.config.Config.{Config}
+use Rattle.rws_record.specs.declared.output.Output.{Output}
 use Rattle.rws_record.specs.Run.{Entry, owner, record_of}
 use Rattle.rws_record.specs.Item.{Item}
 use Rattle.rws_session.specs.Kept.{Is, Kept, StandsOr}
 use Rattle.rws_worker.specs.declared.ahead.Ahead.{Ahead}
-use Rattle.rws_worker.specs.declared.ahead.Ahead.TheVariants.{Nothing, Going}
-use Rattle.rws_worker.specs.declared.asker.Asker.{Asker}
-use Rattle.rws_worker.specs.declared.asker.Asker.TheVariants.{Nobody, Asks, Awaits}
+use Rattle.rws_worker.specs.declared.ahead.Ahead.TheVariants.{Nothing}
+use Rattle.rws_worker.specs.declared.asker.Asker.TheVariants.{Asks, Awaits}
 use Rattle.rws_worker.specs.declared.worker.Worker.{Worker}
-use Rattle.rws_worker.specs.Stepping.{asker_in, going_in, held_outs, is_asking, is_awaiting, is_going, is_session, links_ahead, outs_ahead, outs_by, outs_of_seat}
-use Rattle.rws_worker.specs.Standing.{CanAnswer, IsAsking, SeatStands, WorkerStands, holds}
+use Rattle.rws_worker.specs.Stepping.{asker_in, going_in, held_outs, is_asking, is_going, is_session, links_ahead, outs_ahead, outs_by, outs_of_seat}
+use Rattle.rws_worker.specs.Standing.{SeatStands, WorkerStands, holds}
 use Rattle.rws_worker.specs.Telling.{Changes}
 
 module _ {config : Config} {old : Worker} {run : List Entry} (w : WorkerStands config old run) where
@@ -153,7 +150,7 @@ module _ {config : Config} {old : Worker} {run : List Entry} (w : WorkerStands c
       moved : (asks : Bool) → SeatStands config session asks (Some kept) run → SeatStands config session asks (Some kept') run
       moved asks s = record { live = s.live; stands = stands_moved asks _ s.stands; numbered = same_number ∙ s.numbered }
 
-  all_fetched : (session : ℕ) (kept : Kept) (sessions : BTreeMap ℕ Kept) (goes : Option ℕ) (held : List Action)
+  all_fetched : (session : ℕ) (kept : Kept) (sessions : BTreeMap ℕ Kept) (goes : Option ℕ) (held : List Output)
       → outs_by goes held sessions ≡ [] → get nat_cmp sessions session ≡ Some kept → (is_session session goes ≡ false → kept.outs ≡ [])
       → kept.outs ≡ []
   all_fetched session kept sessions None held none e others = others refl
@@ -227,11 +224,11 @@ module _ {config : Config} {old : Worker} {run : List Entry} (w : WorkerStands c
       }
 
 -- a session of which an output was fetched keeps the rest
-pub fetched_same : (old new : Kept) (result : Option Action)
-    → MatchOption result ((old.outs ≡ []) × (new ≡ old)) (λ action. (old.outs ≡ action ∷ new.outs) × (new ≡ record old { outs = new.outs }))
+pub fetched_same : (old new : Kept) (result : Option Output)
+    → MatchOption result ((old.outs ≡ []) × (new ≡ old)) (λ output. (old.outs ≡ output ∷ new.outs) × (new ≡ record old { outs = new.outs }))
     → (new.state ≡ old.state) × (new.number ≡ old.number)
 fetched_same old new None m = (ap (λ (k : Kept). k.state) m.1, ap (λ (k : Kept). k.number) m.1)
-fetched_same old new (Some action) m = (ap (λ (k : Kept). k.state) m.1, ap (λ (k : Kept). k.number) m.1)
+fetched_same old new (Some output) m = (ap (λ (k : Kept). k.state) m.1, ap (λ (k : Kept). k.number) m.1)
 
 -- where no link is left, none is taken away
 pub none_taken : (result : Option ℕ) (old new : List ℕ) → MatchOption result ((old ≡ []) × (new ≡ [])) (λ link. old ≡ link ∷ new) → old ≡ [] → new ≡ []

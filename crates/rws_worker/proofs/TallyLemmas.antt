@@ -1,12 +1,11 @@
 -- What is open over all sessions, and without one of them.
-use Rattle.std.proofs.Common.{◌≡◌, ◌==◌, ℕ, ◌+◌, ◌<◌, ◌≤◌, ◌^◌, Bool, true, false, List, [], ◌∷◌, ◌++◌, filter, length, map, refl, sym, ap, subst, ◌∙◌, arith, ◌||◌, if◌then◌else◌}
-use Rattle.std.specs.List.{AllByRecursion, range_with_len}
+use Rattle.std.proofs.Common.{◌≡◌, ◌==◌, ℕ, ◌+◌, ◌<◌, ◌^◌, Bool, true, false, List, [], ◌∷◌, ◌++◌, filter, map, refl, sym, ap, subst, ◌∙◌, arith, ◌||◌, if◌then◌else◌}
+use Rattle.std.specs.List.{AllByRecursion}
 use Rattle.std.proofs.lemmas.Bool.{eq-eqb, eqb-true, eqb-false}
 use Rattle.std.proofs.Math.Nat.{add-sub_cancel}
-use Rattle.rws_select.specs.declared.selector.Load.{Load}
 use Rattle.rws_config.specs.declared.config.Config.{Config}
 use Rattle.rws_record.specs.Item.{Item}
-use Rattle.rws_record.specs.Run.{Entry, IsRun, begun, is_live, last_link, load_of, loads_of, open_sessions, record_of, sum}
+use Rattle.rws_record.specs.Run.{Entry, IsRun, begun, is_live, last_link, loads_of, record_of, sum}
 use Rattle.rws_record.proofs.LoadLemmas.{begun_rises, links_load_within, pending_load_within}
 use Rattle.rws_record.proofs.OrderLemmas.{Rises}
 use Rattle.rws_worker.specs.declared.tally.Tally.{Tally}

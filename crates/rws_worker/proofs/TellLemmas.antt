@@ -1,20 +1,19 @@
 -- What is known where a session is looked up and told an input.
-use Rattle.std.proofs.Common.{◌≡◌, ℕ, ◌<◌, max, ⊎_elim, Bool, true, false, not, List, [], ◌∷◌, ◌++◌, map, refl, sym, ap, subst, ◌∙◌, Option, Some, None, ◌&&◌, arith, if◌then◌else◌}
+use Rattle.std.proofs.Common.{◌≡◌, ℕ, max, ⊎_elim, Bool, true, false, not, List, [], ◌∷◌, ◌++◌, map, refl, sym, ap, subst, ◌∙◌, Option, Some, None, ◌&&◌, arith, if◌then◌else◌}
 use Rattle.std.proofs.lemmas.Bool.{and_parts, cases_eq}
 use Rattle.std.proofs.lemmas.List.{append-nil}
 use Rattle.std.specs.BTreeMap.{BTreeMap, get}
 use Rattle.std.specs.Ordering.{nat_cmp}
-use Rattle.rws_board.specs.declared.action.Action.{Action}
 use Rattle.rws_board.specs.declared.event.Event.{Event}
-use Rattle.rws_board.specs.declared.interaction.Interaction.{Interaction}
-use Rattle.rws_board.specs.declared.interaction.Interaction.TheVariants.{Took}
 use Rattle.rws_link.specs.Stepping.{LinkState, is_new}
 use Rattle.rws_config.specs.declared.config.Config.{Config}
+use Rattle.rws_record.specs.Outputs.{done_as}
+use Rattle.rws_record.specs.declared.output.Output.{Output}
 use Rattle.rws_record.specs.Item.{Item}
 use Rattle.rws_record.specs.Item.Item.{ClientBytes, LinkReady, LinkBytes, ClientGone, LinkLost, Ticks}
 use Rattle.rws_record.specs.Values.{asking, links, linked, contains, is_over, is_starved}
 use Rattle.rws_record.specs.Record.{IsInput}
-use Rattle.rws_record.specs.Run.{Entry, begun, begun_by, events_of, record_of, is_live, if_so, last_clock, reading_by, round_of, told_by, told_on, told_to, untold}
+use Rattle.rws_record.specs.Run.{Entry, begun_by, events_of, record_of, is_live, if_so, last_clock, reading_by, round_of, told_by, told_on, told_to, untold}
 use Rattle.rws_record.specs.Run.Entry.{Came, Heard}
 use Rattle.rws_record.proofs.OpeningLemmas.{is_answered, plain_unless_answered}
 use Rattle.rws_record.proofs.RecordLemmas.{begins_no_more, contained}
@@ -270,7 +269,7 @@ module _ {config : Config} {old : Worker} {run : List Entry} (b : IsBetween conf
       subst (λ (v : Worker). Advances config (interactions_of run) (events_of run) v) (sym f.1)
       (nothing_told {worker = now} (between_same {new = now} b (same_seats same) refl refl refl refl counted refl) bare.unasked
       (going_does now session false kept' refl changes.here bare.unbroken bare.unclosed bare.unobserved bare.unasked
-      ∙ append-nil (map Took kept'.outs) ∙ ap (λ (k : Kept). map Took k.outs) same ∙ ap (map Took) empty)
+      ∙ append-nil (map done_as kept'.outs) ∙ ap (λ (k : Kept). map done_as k.outs) same ∙ ap (map done_as) empty)
       (subst (λ (list : List (ℕ × Item)). ToTell (from_of old.telling) old.now_ms run list) (sym nothing) tells))
 
   not_ended : {A : Type 0} → kept' ≡ kept → kept'.state.over ≡ true → A
@@ -293,7 +292,7 @@ module _ {config : Config} {old : Worker} {run : List Entry} (b : IsBetween conf
       (counted_apart b bare session item none more told_so behind tells silent (begins_no_more run session item input)))
       (λ link has. rw (seat.live, has) refl) in
       let t' : InTurn config (interactions_of run) (events_of run) session (record old { tallies = tallies }) true start kept.outs =
-      subst (λ (xs : List Action). InTurn config (interactions_of run) (events_of run) session (record old { tallies = tallies }) true start xs) (sym empty) t in
+      subst (λ (xs : List Output). InTurn config (interactions_of run) (events_of run) session (record old { tallies = tallies }) true start xs) (sym empty) t in
       settled kept kept' (moved t' sessions changes) (heard_here session item run) seat.numbered
       (plain_unless_answered config (item ∷ past) (input_unanswered item past input)) fed silent changes.here new end turned_out finishes
 

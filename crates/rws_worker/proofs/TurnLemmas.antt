@@ -1,24 +1,23 @@
 -- In a session's turn.
-use Rattle.std.proofs.Common.{◌≡◌, ℕ, ◌+◌, ◌<◌, ◌≤◌, ◌^◌, ⊎_elim, Bool, true, false, not, List, [], ◌∷◌, ◌++◌, map, refl, sym, ap, subst, ◌∙◌, Option, Some, None, option_map, append_assoc, arith, if◌then◌else◌}
+use Rattle.std.proofs.Common.{◌≡◌, ℕ, ◌+◌, ◌≤◌, ⊎_elim, Bool, true, false, not, List, [], ◌∷◌, ◌++◌, map, refl, sym, ap, subst, ◌∙◌, Option, Some, None, option_map, append_assoc, arith}
 use Rattle.std.proofs.lemmas.Bool.{cases_eq, eq-eqb, ne_eqb, and_parts}
 use Rattle.std.proofs.lemmas.List.{append-nil, append_cancel_left, map-append}
 use Rattle.std.specs.BTreeMap.{BTreeMap, get}
 use Rattle.std.specs.Ordering.{nat_cmp}
-use Rattle.rws_board.specs.declared.action.Action.{Action}
 use Rattle.rws_board.specs.declared.event.Event.{Event}
 use Rattle.rws_board.specs.declared.interaction.Interaction.{Interaction}
-use Rattle.rws_board.specs.declared.interaction.Interaction.TheVariants.{Took, Told}
-use Rattle.rws_pool.specs.declared.words.Round.{Round}
+use Rattle.rws_board.specs.declared.interaction.Interaction.TheVariants.{Told}
 use Rattle.rws_config.specs.declared.config.Config.{Config}
+use Rattle.rws_record.specs.declared.output.Output.{Output}
 use Rattle.rws_record.specs.Item.{Item, Put}
 use Rattle.rws_record.specs.Item.Item.{Accepted, TurnsAway, Began, ClientBytes, LinkReady, LinkBytes, ClientGone, LinkLost, Ticks, Routed, Comes, Connects, Takes, Floods, Puts, Starves}
-use Rattle.rws_record.specs.Item.Put.{Hands, Tells, Routes, Opens, LogsInto, Sends, Forgets, Drops, Closes}
+use Rattle.rws_record.specs.Item.Put.{Hands, Tells, Records, Routes, Opens, LogsInto, Sends, Forgets, Drops, Closes}
 use Rattle.rws_record.specs.Values.{asking, opens, links, contains, is_over, is_starved}
 use Rattle.rws_record.specs.Rules.{due, next, next_by, owed, unless_asking, ◌or◌}
-use Rattle.rws_record.specs.Outputs.{actions_of, calls_of, outs_of}
+use Rattle.rws_record.specs.Outputs.{calls_of, done_as, outputs_of, outs_of}
 use Rattle.rws_record.specs.Record.{CanBeMade, GoesOn, want_number}
 use Rattle.rws_record.specs.Record.GoesOn.{stays, then as goes}
-use Rattle.rws_record.specs.Run.{Entry, IsRun, answer_for, answer_of, answering, next_entry, record_of, is_live, last_link, owner, observing, unobserved, untold, hearer, step_of, hearing}
+use Rattle.rws_record.specs.Run.{Entry, IsRun, answer_for, answer_of, answering, next_entry, record_of, is_live, owner, observing, unobserved, untold, hearer, step_of, hearing}
 use Rattle.rws_record.specs.Run.Entry.{Did}
 use Rattle.rws_record.specs.Run.IsRun.{goes_on, starves}
 use Rattle.rws_record.proofs.OpeningLemmas.{goes_plainly, is_plain, plain_unless_answered, step_opens_none}
@@ -26,12 +25,11 @@ use Rattle.rws_record.proofs.StepLemmas.{goes_unasking, of_next}
 use Rattle.rws_session.specs.Kept.{Kept, StandsOr}
 use Rattle.rws_worker.specs.declared.ahead.Ahead.{Ahead}
 use Rattle.rws_worker.specs.declared.ahead.Ahead.TheVariants.{Going}
-use Rattle.rws_worker.specs.declared.asker.Asker.{Asker}
-use Rattle.rws_worker.specs.declared.asker.Asker.TheVariants.{Nobody, Asks}
+use Rattle.rws_worker.specs.declared.asker.Asker.TheVariants.{Nobody}
 use Rattle.rws_worker.specs.declared.tally.Tally.{Tally}
 use Rattle.rws_worker.specs.declared.worker.Worker.{Worker}
-use Rattle.rws_worker.specs.Stepping.{from_of, IsBare, asker_in, done_ahead, is_asking, is_awaiting, is_going}
-use Rattle.rws_worker.specs.Standing.{Advances, AreOpen, CanAnswer, IsAsking, IsBehind, SeatStands, TellsFrom, ToTell, interactions_of, holds}
+use Rattle.rws_worker.specs.Stepping.{from_of, asker_in, done_ahead, is_asking, is_awaiting}
+use Rattle.rws_worker.specs.Standing.{Advances, AreOpen, IsAsking, IsBehind, SeatStands, ToTell, interactions_of, holds}
 use Rattle.rws_worker.specs.InTurn.{InTurn, asks_outside}
 use Rattle.rws_worker.specs.Tallies.{seven, tally_but, tally_of}
 use Rattle.rws_worker.specs.Telling.{Changes}
@@ -112,13 +110,13 @@ still_tells (Some number) reading session run now list behind apart tells = reco
 has_at : (link : ℕ) {one other : List Item} → one ≡ other → contains link (links one) ≡ true → contains link (links other) ≡ true
 has_at link same has = subst (λ (past : List Item). contains link (links past) ≡ true) same has
 
-pub more_done : (now done : List Interaction) (outs more : List Action) (calls : List Interaction) → now ≡ done ++ (map Took outs ++ [])
-    → now ++ (map Took more ++ calls) ≡ done ++ (map Took (outs ++ more) ++ calls)
+pub more_done : (now done : List Interaction) (outs more : List Output) (calls : List Interaction) → now ≡ done ++ (map done_as outs ++ [])
+    → now ++ (map done_as more ++ calls) ≡ done ++ (map done_as (outs ++ more) ++ calls)
 more_done now done outs more calls e =
-    ap (λ (xs : List Interaction). xs ++ (map Took more ++ calls)) (e ∙ ap (λ (xs : List Interaction). done ++ xs) (append-nil (map Took outs)))
-    ∙ append_assoc done (map Took outs) (map Took more ++ calls)
+    ap (λ (xs : List Interaction). xs ++ (map done_as more ++ calls)) (e ∙ ap (λ (xs : List Interaction). done ++ xs) (append-nil (map done_as outs)))
+    ∙ append_assoc done (map done_as outs) (map done_as more ++ calls)
     ∙ ap (λ (xs : List Interaction). done ++ xs)
-    (sym (append_assoc (map Took outs) (map Took more) calls) ∙ ap (λ (xs : List Interaction). xs ++ calls) (sym (map-append Took outs more)))
+    (sym (append_assoc (map done_as outs) (map done_as more) calls) ∙ ap (λ (xs : List Interaction). xs ++ calls) (sym (map-append done_as outs more)))
 
 -- Which items ask outside
 
@@ -131,6 +129,7 @@ put_asks : (session : ℕ) (put : Put) (past : List Item) → asking past ≡ fa
 put_asks session Routes past none = routes refl
 put_asks session (Hands packets) past none = plainly none refl
 put_asks session (Tells number tell) past none = plainly none refl
+put_asks session (Records server gtid) past none = plainly none refl
 put_asks session (Opens link server login) past none = plainly none refl
 put_asks session (LogsInto link packets) past none = plainly none refl
 put_asks session (Sends link purpose) past none = plainly none refl
@@ -164,7 +163,7 @@ asks_as session item past (plainly none calls) =
     ap (map Told) calls ∙ ap (λ (a : Bool). asks_outside a session) (sym none)
 
 module _ {config : Config} {done : List Interaction} {events : List Event} {session : ℕ} {worker : Worker} {placed : Bool} {now : List Entry}
-    {outs : List Action} (t : InTurn config done events session worker placed now outs) where
+    {outs : List Output} (t : InTurn config done events session worker placed now outs) where
   -- One item more, which opens no link
   pub further : (item : Item) → opens item ≡ None → asking (record_of session now) ≡ false → IsRun config (Did session item ∷ now)
       → InTurn config done events session worker placed (Did session item ∷ now) (outs ++ outs_of session item (record_of session now))
@@ -195,8 +194,8 @@ module _ {config : Config} {done : List Interaction} {events : List Event} {sess
             (λ server. sym (tally_kept session now t.legal (Did session item ∷ now) refl (λ other apart. did_apart session other item now apart) server));
         heard = t.heard;
         did = more_done (interactions_of now) done outs (outs_of session item past) (map Told (calls_of session item))
-            (t.did ∙ ap (λ (a : Bool). done ++ (map Took outs ++ asks_outside a session)) unasking)
-            ∙ ap (λ (xs : List Interaction). done ++ (map Took (outs ++ outs_of session item past) ++ xs))
+            (t.did ∙ ap (λ (a : Bool). done ++ (map done_as outs ++ asks_outside a session)) unasking)
+            ∙ ap (λ (xs : List Interaction). done ++ (map done_as (outs ++ outs_of session item past) ++ xs))
             (asks_as session item past (item_asks session item past unasking)
             ∙ ap (λ (p : List Item). asks_outside (asking p) session) (sym here));
         bare = t.bare;
@@ -239,7 +238,7 @@ module _ {config : Config} {done : List Interaction} {events : List Event} {sess
 
   pub forgets : (sessions : BTreeMap ℕ Kept) (ahead : Ahead) (broken closing : Option ℕ) → is_over (record_of session now) ≡ true
       → next config (record_of session now) ≡ None → asking (record_of session now) ≡ false → Changes worker.sessions sessions session None
-      → done_ahead (record worker { sessions = sessions; ahead = ahead; broken = broken; closing = closing }) ≡ map Took outs
+      → done_ahead (record worker { sessions = sessions; ahead = ahead; broken = broken; closing = closing }) ≡ map done_as outs
       → Advances config done events (record worker { sessions = sessions; ahead = ahead; broken = broken; closing = closing })
   forgets sessions ahead broken closing over rests unasking changes acts =
       let gone : is_live (record_of session now) ≡ false = t.live ∙ ap not over in
@@ -280,8 +279,8 @@ module _ {config : Config} {done : List Interaction} {events : List Event} {sess
           unspent = t.unspent;
         };
         heard = t.heard;
-        did = t.did ∙ ap (λ (a : Bool). done ++ (map Took outs ++ asks_outside a session)) unasking
-            ∙ ap (λ (xs : List Interaction). done ++ xs) (append-nil (map Took outs) ∙ sym acts);
+        did = t.did ∙ ap (λ (a : Bool). done ++ (map done_as outs ++ asks_outside a session)) unasking
+            ∙ ap (λ (xs : List Interaction). done ++ xs) (append-nil (map done_as outs) ∙ sym acts);
         answered = ap is_awaiting t.bare.unasked;
       }
 
@@ -313,7 +312,7 @@ none_awaits true session = refl
 none_awaits false session = refl
 
 module _ {config : Config} {done : List Interaction} {events : List Event} {session : ℕ} {worker : Worker} {now : List Entry}
-    {outs : List Action} (t : InTurn config done events session worker true now outs) where
+    {outs : List Output} (t : InTurn config done events session worker true now outs) where
   pub goes_so : (asks : Bool) (kept : Kept) (tallies : List Tally) → kept.outs ≡ outs → StandsOr asks config kept (record_of session now) → kept.number ≡ session
       → is_over (record_of session now) ≡ false → is_starved (record_of session now) ≡ false → get nat_cmp worker.sessions session ≡ Some kept
       → tallies ≡ seven (λ server. tally_of now server)
@@ -371,8 +370,8 @@ module _ {config : Config} {done : List Interaction} {events : List Event} {sess
           unspent = t.unspent;
         };
         heard = t.heard;
-        did = t.did ∙ ap (λ (a : Bool). done ++ (map Took outs ++ asks_outside a session)) quiet.1
-            ∙ ap (λ (xs : List Action). done ++ (map Took xs ++ asks_outside asks session)) (sym outs_are)
+        did = t.did ∙ ap (λ (a : Bool). done ++ (map done_as outs ++ asks_outside a session)) quiet.1
+            ∙ ap (λ (xs : List Output). done ++ (map done_as xs ++ asks_outside asks session)) (sym outs_are)
             ∙ ap (λ (xs : List Interaction). done ++ xs)
             (sym (going_does (record worker { ahead = Going session; tallies = tallies; asker = asker_for asks session }) session asks kept refl has
             t.bare.unbroken t.bare.unclosed t.bare.unobserved refl));
@@ -382,23 +381,23 @@ module _ {config : Config} {done : List Interaction} {events : List Event} {sess
 -- Some steps
 
 pub record Further (config : Config) (done : List Interaction) (events : List Event) (session : ℕ) (worker : Worker) (placed : Bool)
-    (start : List Item) (outs : List Action) (reached : List Item) : Type 0 where
+    (start : List Item) (outs : List Output) (reached : List Item) : Type 0 where
   pub run : List Entry
-  pub more : List Action
+  pub more : List Output
   pub turn : InTurn config done events session worker placed run (outs ++ more)
   pub here : record_of session run ≡ reached
-  pub given : actions_of session reached ≡ actions_of session start ++ more
+  pub given : outputs_of session reached ≡ outputs_of session start ++ more
 
 goes_further : {config : Config} {done : List Interaction} {events : List Event} {session : ℕ} {worker : Worker} {placed : Bool} {now : List Entry}
-    {outs : List Action} {start reached : List Item} → InTurn config done events session worker placed now outs
+    {outs : List Output} {start reached : List Item} → InTurn config done events session worker placed now outs
     → record_of session now ≡ start → is_plain (owed config start) ≡ true → GoesOn config start reached
     → Further config done events session worker placed start outs reached
 goes_further {config} {done} {events} {session} {worker} {placed} {now} {outs} {start} t at plain stays = record {
   run = now;
   more = [];
-  turn = subst (λ (xs : List Action). InTurn config done events session worker placed now xs) (sym (append-nil outs)) t;
+  turn = subst (λ (xs : List Output). InTurn config done events session worker placed now xs) (sym (append-nil outs)) t;
   here = at;
-  given = sym (append-nil (actions_of session start));
+  given = sym (append-nil (outputs_of session start));
 }
 goes_further {config} {done} {events} {session} {worker} {placed} {now} {outs} {start} t at plain (goes {now = mid} {item = item} went step) =
     let f = goes_further t at plain went in
@@ -408,56 +407,56 @@ goes_further {config} {done} {events} {session} {worker} {placed} {now} {outs} {
     record {
       run = Did session item ∷ f.run;
       more = f.more ++ outs_of session item mid;
-      turn = subst (λ (xs : List Action). InTurn config done events session worker placed (Did session item ∷ f.run) xs)
+      turn = subst (λ (xs : List Output). InTurn config done events session worker placed (Did session item ∷ f.run) xs)
           (ap (λ (past : List Item). (outs ++ f.more) ++ outs_of session item past) f.here ∙ append_assoc outs f.more (outs_of session item mid))
           (further f.turn item none (ap asking f.here ∙ goes_unasking config mid item step) legal);
       here = did_here session item f.run ∙ ap (λ (past : List Item). item ∷ past) f.here;
-      given = ap (λ (xs : List Action). xs ++ outs_of session item mid) f.given
-          ∙ append_assoc (actions_of session start) f.more (outs_of session item mid);
+      given = ap (λ (xs : List Output). xs ++ outs_of session item mid) f.given
+          ∙ append_assoc (outputs_of session start) f.more (outs_of session item mid);
     }
 
 -- the same, where it is known what they gave out
 pub record Reaches (config : Config) (done : List Interaction) (events : List Event) (session : ℕ) (worker : Worker) (placed : Bool)
-    (outs : List Action) (reached : List Item) : Type 0 where
+    (outs : List Output) (reached : List Item) : Type 0 where
   pub run : List Entry
   pub turn : InTurn config done events session worker placed run outs
   pub here : record_of session run ≡ reached
 
 pub reaches : {config : Config} {done : List Interaction} {events : List Event} {session : ℕ} {worker : Worker} {placed : Bool} {now : List Entry}
-    {outs : List Action} {start reached : List Item} → InTurn config done events session worker placed now outs
+    {outs : List Output} {start reached : List Item} → InTurn config done events session worker placed now outs
     → record_of session now ≡ start → is_plain (owed config start) ≡ true → GoesOn config start reached
-    → (more : List Action) → actions_of session reached ≡ actions_of session start ++ more
+    → (more : List Output) → outputs_of session reached ≡ outputs_of session start ++ more
     → Reaches config done events session worker placed (outs ++ more) reached
 reaches {config} {done} {events} {session} {worker} {placed} {now} {outs} {start} t at plain went more did =
     let f = goes_further t at plain went in
-    let exactly : f.more ≡ more = append_cancel_left (actions_of session start) f.more more (sym f.given ∙ did) in
+    let exactly : f.more ≡ more = append_cancel_left (outputs_of session start) f.more more (sym f.given ∙ did) in
     record {
       run = f.run;
-      turn = subst (λ (xs : List Action). InTurn config done events session worker placed f.run (outs ++ xs)) exactly f.turn;
+      turn = subst (λ (xs : List Output). InTurn config done events session worker placed f.run (outs ++ xs)) exactly f.turn;
       here = f.here;
     }
 
 -- Memory was wanting, and it ends
 
 pub ends_starved : {config : Config} {done : List Interaction} {events : List Event} {session : ℕ} {worker : Worker} {placed : Bool} {now : List Entry}
-    {outs : List Action} {past : List Item} {made : Bool} {number : ℕ} → InTurn config done events session worker placed now outs
-    → record_of session now ≡ Starves made number ∷ past → (actions : List Action)
-    → (f : Finished config session (Starves made number ∷ past) actions)
-    → Reaches config done events session worker placed (outs ++ actions) f.reached
-ends_starved {config} {past = past} {made} {number} t at actions f =
-    reaches t at (plain_unless_answered config (Starves made number ∷ past) refl) f.went_on actions f.given
+    {outs : List Output} {past : List Item} {made : Bool} {number : ℕ} → InTurn config done events session worker placed now outs
+    → record_of session now ≡ Starves made number ∷ past → (more : List Output)
+    → (f : Finished config session (Starves made number ∷ past) more)
+    → Reaches config done events session worker placed (outs ++ more) f.reached
+ends_starved {config} {past = past} {made} {number} t at more f =
+    reaches t at (plain_unless_answered config (Starves made number ∷ past) refl) f.went_on more f.given
 
 pub wants : {config : Config} {done : List Interaction} {events : List Event} {session : ℕ} {worker : Worker} {placed : Bool} {now : List Entry}
-    {outs : List Action} {past : List Item} → InTurn config done events session worker placed now outs → record_of session now ≡ past
-    → (made : Bool) → is_starved past ≡ false → asking past ≡ false → CanBeMade made past → (actions : List Action)
-    → (f : Finished config session (Starves made (want_number config past) ∷ past) actions)
-    → Reaches config done events session worker placed (outs ++ actions) f.reached
-wants {config} {done} {events} {session} {worker} {placed} {now} {outs} {past} t at made fed unasking can actions f =
+    {outs : List Output} {past : List Item} → InTurn config done events session worker placed now outs → record_of session now ≡ past
+    → (made : Bool) → is_starved past ≡ false → asking past ≡ false → CanBeMade made past → (more : List Output)
+    → (f : Finished config session (Starves made (want_number config past) ∷ past) more)
+    → Reaches config done events session worker placed (outs ++ more) f.reached
+wants {config} {done} {events} {session} {worker} {placed} {now} {outs} {past} t at made fed unasking can more f =
     let item : Item = Starves made (want_number config past) in
     let legal : IsRun config (Did session item ∷ now) =
     starves t.legal t.hears (ap is_starved at ∙ fed) (subst (λ (p : List Item). CanBeMade made p) (sym at) can)
     (ap (want_number config) (sym at)) in
     let u : InTurn config done events session worker placed (Did session item ∷ now) outs =
-    subst (λ (xs : List Action). InTurn config done events session worker placed (Did session item ∷ now) xs) (append-nil outs)
+    subst (λ (xs : List Output). InTurn config done events session worker placed (Did session item ∷ now) xs) (append-nil outs)
     (further t item refl (ap asking at ∙ unasking) legal) in
-    ends_starved u (did_here session item now ∙ ap (λ (p : List Item). item ∷ p) at) actions f
+    ends_starved u (did_here session item now ∙ ap (λ (p : List Item). item ∷ p) at) more f

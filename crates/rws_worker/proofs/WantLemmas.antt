@@ -1,15 +1,16 @@
 -- How a session ends to which memory was wanting.
-use Rattle.std.proofs.Common.{◌≡◌, ℕ, Bool, true, false, List, [], ◌∷◌, ◌++◌, map, refl, sym, ap, ◌∙◌, Option, Some, None, append_assoc}
+use Rattle.std.proofs.Common.{◌≡◌, ℕ, Bool, true, false, List, [], ◌∷◌, ◌++◌, map, refl, sym, ap, ◌∙◌, Some, None, append_assoc}
 use Rattle.std.proofs.lemmas.List.{append-nil}
 use Rattle.rws_wire.specs.Packets.{full_packet, spelling}
 use Rattle.rws_wire.specs.declared.close_reason.CloseReason.TheVariants.{Memory}
 use Rattle.rws_wire.specs.declared.drop_cause.DropCause.TheVariants.{End}
 use Rattle.rws_msgs.specs.ErrLayout.{err_bytes}
-use Rattle.rws_board.specs.declared.action.Action.{Action}
 use Rattle.rws_board.specs.declared.action.Action.TheVariants.{ToClient, Close, Drop}
 use Rattle.rws_config.specs.declared.config.Config.{Config}
 use Rattle.rws_commands.specs.declared.proxy_error.ProxyError.TheVariants.{OutOfMemory}
 use Rattle.rws_commands.specs.Errors.{error_of}
+use Rattle.rws_record.specs.declared.output.Output.{Output}
+use Rattle.rws_record.specs.declared.output.Output.TheVariants.{Act}
 use Rattle.rws_record.specs.Item.{Item, Put}
 use Rattle.rws_record.specs.Item.Item.{Puts, Starves}
 use Rattle.rws_record.specs.Item.Put.{Tells, Drops, Closes}
@@ -18,7 +19,7 @@ use Rattle.rws_record.specs.Values.{asking, links, is_over}
 use Rattle.rws_record.specs.Rules.{next, owed, due, next_by, unless_asking}
 use Rattle.rws_record.specs.Record.{GoesOn}
 use Rattle.rws_record.specs.Record.GoesOn.{stays, then as goes}
-use Rattle.rws_record.specs.Outputs.{actions_of}
+use Rattle.rws_record.specs.Outputs.{outputs_of}
 use Rattle.rws_session.specs.State.{farewell_packet, numbered}
 use Rattle.rws_worker.specs.Stepping.{drops}
 
@@ -28,18 +29,18 @@ unfolding full_packet spelling err_bytes
 farewell_of number = refl
 
 -- what is given out where memory is wanting to a session
-abbrev pub ends_so : (session : ℕ) → (over : Bool) → (farewell links : List ℕ) → List Action
+abbrev pub ends_so : (session : ℕ) → (over : Bool) → (farewell links : List ℕ) → List Output
 ends_so session true farewell links = drops links
-ends_so session false farewell links = ToClient session farewell ∷ Close session Memory ∷ drops links
+ends_so session false farewell links = Act (ToClient session farewell) ∷ Act (Close session Memory) ∷ drops links
 
 -- from a record a session went on until it rested and was over, and gave this out
-pub record Finished (config : Config) (session : ℕ) (start : List Item) (actions : List Action) : Type 0 where
+pub record Finished (config : Config) (session : ℕ) (start : List Item) (outs : List Output) : Type 0 where
   pub reached : List Item
   pub went_on : GoesOn config start reached
   pub rests : next config reached ≡ None
   pub unasking : asking reached ≡ false
   pub over : is_over reached ≡ true
-  pub given : actions_of session reached ≡ actions_of session start ++ actions
+  pub given : outputs_of session reached ≡ outputs_of session start ++ outs
 
 -- one step before
 joined : {config : Config} {past now later : List Item} → GoesOn config past now → GoesOn config now later → GoesOn config past later
@@ -47,16 +48,16 @@ joined before stays = before
 joined before (goes after step) = goes (joined before after) step
 
 module _ (config : Config) (session : ℕ) where
-  then_finished : (start now : List Item) (given actions : List Action) → GoesOn config start now
-      → actions_of session now ≡ actions_of session start ++ given → Finished config session now actions
-      → Finished config session start (given ++ actions)
-  then_finished start now given actions went did f = record {
+  then_finished : (start now : List Item) (given outs : List Output) → GoesOn config start now
+      → outputs_of session now ≡ outputs_of session start ++ given → Finished config session now outs
+      → Finished config session start (given ++ outs)
+  then_finished start now given outs went did f = record {
     reached = f.reached;
     went_on = joined went f.went_on;
     rests = f.rests;
     unasking = f.unasking;
     over = f.over;
-    given = f.given ∙ ap (λ (before : List Action). before ++ actions) did ∙ append_assoc (actions_of session start) given actions;
+    given = f.given ∙ ap (λ (before : List Output). before ++ outs) did ∙ append_assoc (outputs_of session start) given outs;
   }
 
   next_is : (past : List Item) (put : Put) (others : List Put) → asking past ≡ false → owed config past ≡ put ∷ others
@@ -80,18 +81,18 @@ module _ (config : Config) (session : ℕ) where
     rests = at_rest past none o over;
     unasking = none;
     over = over;
-    given = sym (append-nil (actions_of session past));
+    given = sym (append-nil (outputs_of session past));
   }
   gives_up (link ∷ others) past none o over =
-      then_finished past (Puts (Drops link End) ∷ past) (Drop link End ∷ []) (drops others)
+      then_finished past (Puts (Drops link End) ∷ past) (Act (Drop link End) ∷ []) (drops others)
       (goes stays (next_is past (Drops link End) (map (λ link. Drops link End) others) none o)) refl
       (gives_up others (Puts (Drops link End) ∷ past) none (rw o refl) over)
 
   -- the session is closed
   closes : (past : List Item) → asking past ≡ false → owed config past ≡ Closes Memory ∷ []
-      → Finished config session past (Close session Memory ∷ drops (links past))
+      → Finished config session past (Act (Close session Memory) ∷ drops (links past))
   closes past none o =
-      then_finished past (Puts (Closes Memory) ∷ past) (Close session Memory ∷ []) (drops (links past))
+      then_finished past (Puts (Closes Memory) ∷ past) (Act (Close session Memory) ∷ []) (drops (links past))
       (goes stays (next_is past (Closes Memory) [] none o)) refl
       (gives_up (links past) (Puts (Closes Memory) ∷ past) none refl refl)
 
@@ -104,17 +105,17 @@ module _ (config : Config) (session : ℕ) where
     -- one that goes on
     pub made_ends : (past : List Item) → is_over past ≡ false
         → Finished config session (Starves true number ∷ past)
-        (ToClient session (spelling number (err_bytes (error_of OutOfMemory))) ∷ Close session Memory ∷ drops (links past))
+        (Act (ToClient session (spelling number (err_bytes (error_of OutOfMemory)))) ∷ Act (Close session Memory) ∷ drops (links past))
     made_ends past over =
         let o : owed config (Starves true number ∷ past) ≡ Tells number (Refuses OutOfMemory) ∷ Closes Memory ∷ [] = rw over refl in
         then_finished (Starves true number ∷ past) (Puts (Tells number (Refuses OutOfMemory)) ∷ Starves true number ∷ past)
-        (ToClient session (spelling number (err_bytes (error_of OutOfMemory))) ∷ [])
-        (Close session Memory ∷ drops (links past))
+        (Act (ToClient session (spelling number (err_bytes (error_of OutOfMemory)))) ∷ [])
+        (Act (Close session Memory) ∷ drops (links past))
         (goes stays (next_is (Starves true number ∷ past) (Tells number (Refuses OutOfMemory)) (Closes Memory ∷ []) refl o))
         refl
         (closes (Puts (Tells number (Refuses OutOfMemory)) ∷ Starves true number ∷ past) refl (rw over refl))
 
     -- one that couldn't be made
     pub unmade_ends : (past : List Item) → is_over past ≡ false
-        → Finished config session (Starves false number ∷ past) (Close session Memory ∷ drops (links past))
+        → Finished config session (Starves false number ∷ past) (Act (Close session Memory) ∷ drops (links past))
     unmade_ends past over = closes (Starves false number ∷ past) refl (rw over refl)

@@ -1,6 +1,8 @@
 -- What a board did in a worker's work.
-use Rattle.std.proofs.Common.{◌≡◌, ℕ, ◌+◌, ◌-◌, ◌^◌, ◌<◌, ◌≤◌, Bool, true, false, List, [], ◌∷◌, ◌++◌, length, refl, sym, ap, subst, ◌∙◌, append_assoc, arith, Option, Some, None, Result, Ok, Err, MatchResult, inl, inr}
+use Rattle.std.proofs.Common.{◌≡◌, ℕ, ◌+◌, ◌-◌, ◌^◌, ◌<◌, ◌≤◌, Bool, true, false, List, [], ◌∷◌, ◌++◌, length, refl, sym, ap, subst, ◌∙◌, append_assoc, arith, Some, Result, Ok, Err, MatchResult, inl, inr}
 use Rattle.std.proofs.lemmas.List.{append-nil, length-append}
+use Rattle.std.specs.List.{AllByRecursion}
+use Rattle.std.specs.Prelude.{nat_lt, if◌then◌else◌}
 use Rattle.rws_board.proofs.JoinLemmas.{events_given-append}
 use Rattle.rws_board.specs.Boards.{Standing, given, standing_after, events_given}
 use Rattle.rws_board.specs.Boards.Standing.{Going, Ended as AtEnd, ActFailed}
@@ -14,18 +16,20 @@ use Rattle.rws_pool.specs.declared.events.PoolCall.{PoolCall}
 use Rattle.rws_pool.specs.declared.events.PoolEvent.{PoolEvent}
 use Rattle.rws_pool.specs.declared.words.PoolWords.{PoolWords}
 use Rattle.rws_pool.specs.History.{event_of}
-use Rattle.rws_pool.specs.Machine.{new_words, pool_from, pool_step}
+use Rattle.rws_pool.specs.declared.events.PoolEvent.TheVariants.{Route as RouteEvent, Record, Observe}
+use Rattle.rws_pool.specs.Machine.{CanStep, later, new_words, pool_from, pool_step}
+use Rattle.rws_gtid.specs.declared.Gtid.{Gtid}
+use Rattle.rws_config.specs.Allowed.{IsAllowed}
 use Rattle.rws_config.specs.declared.config.Config.{Config}
 use Rattle.rws_board.specs.declared.action.Action.{Action}
-use Rattle.rws_record.specs.Item.{Item}
-use Rattle.rws_record.specs.Run.{Entry, IsRun, events_of, hearer, last_link, next_entry, pool_events_of, untold, words_of}
+use Rattle.rws_record.specs.Run.{Entry, events_of, pool_events_of, untold, words_of}
 use Rattle.rws_record.specs.Run.Entry.{Came}
 use Rattle.rws_record.specs.Run.IsRun.{came}
 use Rattle.rws_worker.specs.declared.asker.Asker.{Asker}
 use Rattle.rws_worker.specs.declared.asker.Asker.TheVariants.{Nobody, Asks, Awaits}
-use Rattle.rws_worker.specs.Stepping.{IsIdle, all_done_for, asker_in, done_ahead, done_for, is_awaiting, is_route, steps_ahead}
+use Rattle.rws_worker.specs.Stepping.{IsIdle, all_done_for, asker_in, done_ahead, done_for, is_awaiting, steps_ahead}
 use Rattle.rws_worker.specs.Standing.{interactions_of, WorkerStands, Advances, Gives, GivesOr, IsUnbegun, StepsOn}
-use Rattle.rws_worker.specs.Working.{GoesSo, IsResting, IsFront, IsSpent, IsUnderway, WithWords, Works, end_by, events_told, is_end}
+use Rattle.rws_worker.specs.Working.{CanBeDone, GoesSo, HasBegun, IsResting, IsFront, IsUnderway, WithWords, Works, end_by, events_told, is_end}
 use Rattle.rws_worker.specs.Working.IsSpent.{unnumbered, unbegun, countless}
 use Rattle.rws_worker.specs.Working.Works.{untaken, starved_acting, spent}
 use Rattle.rws_worker.specs.declared.work.Next.{Next}
@@ -34,9 +38,10 @@ use Rattle.rws_worker.specs.declared.work.WorkEnd.TheVariants as ends
 use Rattle.rws_worker.specs.declared.step.Step.{Step}
 use Rattle.rws_worker.specs.declared.step.Step.TheVariants.{Idle, Act, Call, Broken, Spent}
 use Rattle.rws_worker.specs.declared.worker.Worker.{Worker}
+use Rattle.rws_worker.proofs.CommitLemmas.{all_takable}
 use Rattle.rws_worker.proofs.EventLemmas.{idle_rests}
-use Rattle.rws_worker.proofs.InteractionLemmas.{events_told-append, given_tells_none, pool_from-append, words_told}
-use Rattle.rws_worker.proofs.RestingLemmas.{IsQuiet, RestsLater, ends_it, goes_through, rests_later}
+use Rattle.rws_worker.proofs.InteractionLemmas.{events_told-append, given_tells_none, pool_from-append, told_can, words_told}
+use Rattle.rws_worker.proofs.RestingLemmas.{RestsLater, ends_it, goes_through, rests_later}
 use Rattle.rws_worker.proofs.StepsLemmas.{bare_has_none}
 
 -- The words
@@ -60,6 +65,41 @@ words_at_call first old now before call same stepped =
     stepped ∙ ap (λ (words : PoolWords). pool_step words (event_of call)) same
     ∙ sym (pool_from-append first (events_told before) (event_of call ∷ []))
     ∙ ap (pool_from first) (sym (events_told-append before (Told call ∷ [])))
+
+-- What they are to take they can take
+
+one_of_all : {A : Type 0} (P : A → Type 0) (before : List A) (one : A) (others : List A) → AllByRecursion P (before ++ one ∷ others) → P one
+one_of_all P [] one others all = all.0
+one_of_all P (first ∷ before) one others all = one_of_all P before one others all.1
+
+pub can_be_done : {config : Config} {run : List Entry} {old new : Worker} (step : Step) → IsAllowed config → StepsOn config run step old new
+    → (done : List Interaction) → interactions_of run ≡ done ++ done_ahead old → CanBeDone config.gtid_domain step
+can_be_done {config} {run} {old} {new} (Call call) allowed s done parted =
+    let domain : ℕ = config.gtid_domain in
+    let can = told_can domain s.now (all_takable config s.now allowed.servers.1 s.stands.legal) in
+    one_of_all (CanStep domain) (events_told done) (event_of call) (events_told (done_ahead new))
+    (subst (λ (events : List PoolEvent). AllByRecursion (CanStep domain) events)
+    (ap events_told (s.did done parted) ∙ events_told-append done (Told call ∷ done_ahead new)) can)
+can_be_done Idle allowed s done parted = tt
+can_be_done (Act action) allowed s done parted = tt
+can_be_done (Broken session farewell) allowed s done parted = tt
+can_be_done Spent allowed s done parted = tt
+
+-- and their domain stays
+
+later_domain : (gtid : Gtid) (other : Gtid) → (later gtid other).domain ≡ gtid.domain
+later_domain gtid other = by_test (nat_lt gtid.sequence other.sequence)
+  where
+    by_test : (test : Bool)
+        → (if test then record { domain = gtid.domain; server = other.server; sequence = other.sequence } else gtid).domain ≡ gtid.domain
+    by_test true = refl
+    by_test false = refl
+
+same_domain : (words : PoolWords) (events : List PoolEvent) → (pool_from words events).last.domain ≡ words.last.domain
+same_domain words [] = refl
+same_domain words (RouteEvent ∷ events) = same_domain words events
+same_domain words (Record server gtid ∷ events) = same_domain (pool_step words (Record server gtid)) events ∙ later_domain words.last gtid
+same_domain words (Observe round ∷ events) = same_domain (pool_step words (Observe round)) events
 
 -- An event
 
@@ -155,6 +195,22 @@ front_of {config} {worker} {run} w few done rest parted told =
       rest = rest ++ l.to.more;
       parted = l.to.did ∙ ap (λ (xs : List Interaction). xs ++ l.to.more) parted ∙ append_assoc done rest l.to.more;
     }
+
+-- It is underway, however many things were done
+pub is_underway : {config : Config} {did : List Interaction → Standing → Type 0} {worker : Worker} {count things : ℕ}
+    → IsUnderway config did worker count things → IsUnderway config did worker count 0
+is_underway u = record {
+  run = u.run;
+  stands = u.stands;
+  answered = u.answered;
+  counted = u.counted;
+  few = u.few;
+  told = u.told;
+  done = u.done;
+  many = omega arith;
+  parted = u.parted;
+  done_so_far = u.done_so_far;
+}
 
 -- Between two events
 
@@ -288,6 +344,17 @@ module _ {config : Config} {did : List Interaction → Standing → Type 0} {wor
         → Works config now_did (end_by fault)
     ends_failing faults.Failed d = untaken (u.done ++ interaction ∷ []) (front_now (u.done ++ interaction ∷ []) [] (is_done ∙ sym (append-nil (u.done ++ interaction ∷ [])))) d
     ends_failing faults.OutOfMemory d = starved_acting (u.done ++ interaction ∷ []) (front_now (u.done ++ interaction ∷ []) [] (is_done ∙ sym (append-nil (u.done ++ interaction ∷ [])))) d
+
+-- A step of the pool that comes next can be taken by the words
+
+pub can_take : {B : Type 0} {config : Config} {did : B → List Interaction → Standing → Type 0} {words : PoolWords} {worker : Worker} {events : ℕ}
+    (b : HasBegun config did words worker events) (call : PoolCall) → CanBeDone config.gtid_domain (Call call)
+    → CanStep words.last.domain (event_of call)
+can_take {config = config} {words = words} b call can =
+    let same : words.last.domain ≡ config.gtid_domain =
+    ap (λ (w : PoolWords). w.last.domain) b.underway.done_so_far.1 ∙ same_domain b.first (events_told b.underway.done)
+    ∙ ap (λ (w : PoolWords). w.last.domain) b.is_new in
+    subst (λ (domain : ℕ). CanStep domain (event_of call)) (sym same) can
 
 -- what was told outside of a session that asks leaves nothing to do
 pub awaiting_has_none : {config : Config} {worker : Worker} {run : List Entry} → WorkerStands config worker run → (asker : Asker) → worker.asker ≡ asker

@@ -1,13 +1,14 @@
 -- Before and in a session's turn.
-use Rattle.std.specs.Prelude.{◌≡◌, ℕ, ◌<◌, ◌^◌, Bool, true, not, List, [], ◌∷◌, ◌++◌, map, Option, Some, None, false}
+use Rattle.std.specs.Prelude.{◌≡◌, ℕ, ◌<◌, ◌^◌, Bool, true, not, List, [], ◌∷◌, ◌++◌, map, Some, None, false}
 use Rattle.std.specs.BTreeMap.{get}
 use Rattle.std.specs.Ordering.{nat_cmp}
-use Rattle.rws_board.specs.declared.action.Action.{Action}
 use Rattle.rws_board.specs.declared.event.Event.{Event}
 use Rattle.rws_board.specs.declared.interaction.Interaction.{Interaction}
-use Rattle.rws_board.specs.declared.interaction.Interaction.TheVariants.{Took, Told}
+use Rattle.rws_board.specs.declared.interaction.Interaction.TheVariants.{Told}
 use Rattle.rws_pool.specs.declared.events.PoolCall.TheVariants.{Route}
 use Rattle.rws_config.specs.declared.config.Config.{Config}
+use Rattle.rws_record.specs.Outputs.{done_as}
+use Rattle.rws_record.specs.declared.output.Output.{Output}
 use Rattle.rws_record.specs.Run.{Entry, IsRun, answer_of, hearer, last_clock, record_of, is_live, owner, last_link, greatest, step_of, unobserved, untold, events_of}
 use Rattle.rws_record.specs.Values.{asking, contains, is_over, links}
 use Rattle.rws_session.specs.Kept.{Kept}
@@ -42,7 +43,7 @@ asks_outside false session = []
 -- The session of this number is in turn, and gave this out since. All others stand as before it, and are counted without it. Where
 -- it is `placed`, the worker knows of each link that it has that it is the owner.
 pub record InTurn (config : Config) (done : List Interaction) (events : List Event) (session : ℕ) (worker : Worker) (placed : Bool)
-    (now : List Entry) (outs : List Action) : Type 0 where
+    (now : List Entry) (outs : List Output) : Type 0 where
   pub legal : IsRun config now
   pub hears : hearer now ≡ Some session
   pub told : ToTell (from_of worker.telling) worker.now_ms now (untold config now)
@@ -62,6 +63,6 @@ pub record InTurn (config : Config) (done : List Interaction) (events : List Eve
   pub clock : worker.now_ms ≡ last_clock now
   pub tallied : worker.tallies ≡ seven (λ server. tally_but session now server)
   pub heard : events_of now ≡ events
-  pub did : interactions_of now ≡ done ++ (map Took outs ++ asks_outside (asking (record_of session now)) session)
+  pub did : interactions_of now ≡ done ++ (map done_as outs ++ asks_outside (asking (record_of session now)) session)
   pub bare : IsBare worker
   pub unspent : worker.spent ≡ false

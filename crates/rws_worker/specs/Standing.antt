@@ -21,7 +21,7 @@ use Rattle.rws_worker.specs.declared.worker.Worker.{Worker}
 use Rattle.rws_worker.specs.declared.ahead.Ahead.TheVariants.{Nothing}
 use Rattle.rws_worker.specs.declared.asker.Asker.TheVariants.{Nobody}
 use Rattle.rws_worker.specs.declared.step.Step.{Step}
-use Rattle.rws_worker.specs.declared.step.Step.TheVariants.{Idle, Act, Call, Broken, Spent}
+use Rattle.rws_worker.specs.declared.step.Step.TheVariants.{Idle, Spent}
 use Rattle.rws_worker.specs.Stepping.{IsIdle, asker_in, done_ahead, done_for, from_of, is_asking, is_awaiting, is_going, is_route, links_ahead}
 use Rattle.rws_worker.specs.Tallies.{seven, tally_of}
 

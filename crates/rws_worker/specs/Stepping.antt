@@ -4,12 +4,13 @@ use Rattle.std.specs.BTreeMap.{BTreeMap, get}
 use Rattle.std.specs.Ordering.{nat_cmp}
 use Rattle.rws_wire.specs.declared.close_reason.CloseReason.TheVariants.{Memory}
 use Rattle.rws_wire.specs.declared.drop_cause.DropCause.TheVariants.{End}
-use Rattle.rws_board.specs.declared.action.Action.{Action}
 use Rattle.rws_board.specs.declared.action.Action.TheVariants.{ToClient, Close, Drop}
 use Rattle.rws_board.specs.declared.interaction.Interaction.{Interaction}
 use Rattle.rws_board.specs.declared.interaction.Interaction.TheVariants.{Took, Told}
-use Rattle.rws_pool.specs.declared.events.PoolCall.TheVariants.{Observe, Route}
+use Rattle.rws_pool.specs.declared.events.PoolCall.TheVariants.{Observe, Record, Route}
 use Rattle.rws_pool.specs.declared.words.Round.{Round}
+use Rattle.rws_record.specs.declared.output.Output.{Output}
+use Rattle.rws_record.specs.declared.output.Output.TheVariants as outputs
 use Rattle.rws_session.specs.State.{numbered}
 use Rattle.rws_session.specs.Kept.{Kept, numbers}
 use Rattle.rws_worker.specs.declared.ahead.Ahead.{Ahead}
@@ -48,16 +49,16 @@ abbrev pub is_going : ℕ → Ahead → Bool
 is_going session ahead = is_session session (going_in ahead)
 
 -- what a session gave out that doesn't go on
-abbrev pub held_outs : Ahead → List Action
+abbrev pub held_outs : Ahead → List Output
 held_outs (Over k) = k.outs
 held_outs (Starved k) = k.outs
 held_outs _ = []
 
-abbrev pub outs_of_seat : Option Kept → List Action
+abbrev pub outs_of_seat : Option Kept → List Output
 outs_of_seat (Some k) = k.outs
 outs_of_seat None = []
 
-abbrev pub outs_by : Option ℕ → List Action → BTreeMap ℕ Kept → List Action
+abbrev pub outs_by : Option ℕ → List Output → BTreeMap ℕ Kept → List Output
 outs_by (Some session) held sessions = outs_of_seat (get nat_cmp sessions session)
 outs_by None held sessions = held
 
@@ -103,12 +104,17 @@ start_of (Above session) = Some (Excluded session)
 
 -- The steps that are still to be made
 
+-- something that a session gave out is done outside, or the words take it
+abbrev pub step_for : Output → Step
+step_for (outputs.Act action) = Act action
+step_for (outputs.Record server gtid) = Call (Record server gtid)
+
 -- a round that is to be taken in
 abbrev pub calls_by : Option Round → List Step
 calls_by (Some round) = Call (Observe round) ∷ []
 calls_by None = []
 
-abbrev pub outs_ahead : Worker → List Action
+abbrev pub outs_ahead : Worker → List Output
 outs_ahead worker = outs_by (going_in worker.ahead) (held_outs worker.ahead) worker.sessions
 
 -- a session asks
@@ -126,11 +132,11 @@ abbrev pub closes_by : Option ℕ → List Step
 closes_by (Some session) = Act (Close session Memory) ∷ []
 closes_by None = []
 
-abbrev pub drops : List ℕ → List Action
-drops links = map (λ link. Drop link End) links
+abbrev pub drops : List ℕ → List Output
+drops links = map (λ link. outputs.Act (Drop link End)) links
 
 abbrev pub endings_by : (broken closing : Option ℕ) → (farewell links : List ℕ) → List Step
-endings_by broken closing farewell links = broken_by broken farewell ++ (closes_by closing ++ map Act (drops links))
+endings_by broken closing farewell links = broken_by broken farewell ++ (closes_by closing ++ map step_for (drops links))
 
 -- where memory was wanting: this is told, the session is closed, and its links are given up in order of number
 abbrev pub endings : Worker → List Step
@@ -138,7 +144,7 @@ endings worker = endings_by worker.broken worker.closing (farewell_ahead worker.
 
 -- A round is taken in first; behind all that a session gave out it asks, or comes how it ends.
 abbrev pub steps_ahead : Worker → List Step
-steps_ahead worker = calls_by worker.observed ++ (map Act (outs_ahead worker) ++ (routes_by worker.asker ++ endings worker))
+steps_ahead worker = calls_by worker.observed ++ (map step_for (outs_ahead worker) ++ (routes_by worker.asker ++ endings worker))
 
 -- What is done for them
 

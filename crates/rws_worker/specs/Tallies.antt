@@ -1,5 +1,5 @@
 -- What a worker has open to each server, as sums over its sessions.
-use Rattle.std.specs.Prelude.{◌≡◌, ℕ, ◌+◌, ◌-◌, ◌<◌, ◌^◌, ◌==◌, List, [], ◌∷◌, length, map, if◌then◌else◌}
+use Rattle.std.specs.Prelude.{ℕ, ◌+◌, ◌-◌, ◌<◌, ◌^◌, ◌==◌, List, [], ◌∷◌, length, map, if◌then◌else◌}
 use Rattle.rws_record.specs.Item.{Item}
 use Rattle.rws_record.specs.Run.{Entry, capped, begun, is_live, links_to, open_sessions, pending_to, record_of, sum}
 use Rattle.rws_select.specs.declared.selector.Load.{Load}

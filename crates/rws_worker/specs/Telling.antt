@@ -1,16 +1,14 @@
 -- What a worker does with a session: it makes one, gives it a turn, and answers it.
-use Rattle.std.specs.Prelude.{◌≡◌, ℕ, ◌+◌, ◌<◌, ◌^◌, Bool, true, false, List, [], ◌∷◌, ◌++◌, Option, Some, None, Result, Ok, Err, if◌then◌else◌}
+use Rattle.std.specs.Prelude.{◌≡◌, ℕ, ◌<◌, ◌^◌, Bool, true, false, List, [], ◌∷◌, Option, Some, None, Result, Ok, Err, if◌then◌else◌}
 use Rattle.std.specs.BTreeMap.{BTreeMap, get}
 use Rattle.std.specs.Ordering.{nat_cmp}
 use Rattle.std.specs.BTreeMap.Range.{IsFromStart}
 use Rattle.std.specs.declared.ops.Bound.{Bound}
 use Rattle.rws_board.specs.declared.event.Event.{Event}
-use Rattle.rws_board.specs.declared.interaction.Interaction.{Interaction}
 use Rattle.rws_pool.specs.declared.words.PoolWords.{PoolWords}
 use Rattle.rws_select.specs.declared.selector.Load.{Load}
 use Rattle.rws_config.specs.declared.config.Config.{Config}
 use Rattle.rws_record.specs.Item.{Item}
-use Rattle.rws_record.specs.Item.Item.{Began}
 use Rattle.rws_record.specs.Record.{IsBeginning}
 use Rattle.rws_record.specs.Values.{opens}
 use Rattle.rws_record.specs.Run.{Entry, begun_by, greatest, reading_by, round_of, told_by, untold}

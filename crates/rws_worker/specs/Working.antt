@@ -11,7 +11,7 @@ use Rattle.rws_board.specs.declared.interaction.Interaction.TheVariants.{Gave, T
 use Rattle.rws_pool.specs.declared.events.PoolEvent.{PoolEvent}
 use Rattle.rws_pool.specs.declared.words.PoolWords.{PoolWords}
 use Rattle.rws_pool.specs.History.{event_of}
-use Rattle.rws_pool.specs.Machine.{CanStep, pool_from}
+use Rattle.rws_pool.specs.Machine.{CanStep, new_words, pool_from}
 use Rattle.rws_config.specs.declared.config.Config.{Config}
 use Rattle.rws_record.specs.Run.{Entry, IsRun, next_entry, events_of, last_link}
 use Rattle.rws_worker.specs.Stepping.{IsIdle, done_ahead, is_awaiting}
@@ -94,6 +94,14 @@ pub record IsUnderway (config : Config) (did : List Interaction → Standing →
   pub many : things ≤ length done
   pub parted : interactions_of run ≡ done ++ done_ahead worker
   pub done_so_far : did done Going
+
+-- for some board, and some words that it began with
+pub record HasBegun {B : Type 0} (config : Config) (did : B → List Interaction → Standing → Type 0) (words : PoolWords) (worker : Worker) (events : ℕ)
+    : Type 0 where
+  pub start : B
+  pub first : PoolWords
+  pub is_new : first ≡ new_words config.gtid_domain
+  pub underway : IsUnderway config (WithWords (did start) first words) worker events 0
 
 -- how it stands when something more was done
 abbrev pub GoesSo : Config → (did : List Interaction → Standing → Type 0) → Worker → (events things : ℕ) → Next → Type 0

@@ -3,7 +3,7 @@ ghost use Rattle.std.specs.Prelude.{◌≡◌, ◌∷◌, ℕ, [], MatchOption};
 ghost use Rattle.rws_worker.specs.declared.ahead.Ahead.TheVariants.{Nothing};
 ghost use Rattle.rws_worker.specs.Stepping.{farewell_ahead, going_in, held_outs, links_ahead, over_in, starved_in};
 
-use rws_board::Action;
+use rws_record::Output;
 use rws_session::Session;
 use rws_wire::Text;
 use std::alloc::Global;
@@ -58,8 +58,8 @@ impl Ahead {
     }
 
     /// The oldest output of a session that doesn't go on.
-    pub(crate) fn next_out(&mut self) -> Option<Action>
-        ensures out { MatchOption result ((held_outs self.old ≡ []) × (held_outs self.new ≡ [])) (λ action. held_outs self.old ≡ action ∷ held_outs self.new) }
+    pub(crate) fn next_out(&mut self) -> Option<Output>
+        ensures out { MatchOption result ((held_outs self.old ≡ []) × (held_outs self.new ≡ [])) (λ output. held_outs self.old ≡ output ∷ held_outs self.new) }
         ensures farewell { farewell_ahead self.new ≡ farewell_ahead self.old }
         ensures links { links_ahead self.new ≡ links_ahead self.old }
         ensures going { going_in self.new ≡ going_in self.old }

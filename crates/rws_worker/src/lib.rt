@@ -14,6 +14,3 @@ mod worker;
 pub use step::Step;
 pub use work::{WorkEnd, work_here};
 pub use worker::Worker;
-
-#[cfg(test)]
-mod tests;

@@ -10,7 +10,7 @@ ghost use Rattle.rws_pool.specs.History.{event_of};
 ghost use Rattle.rws_pool.specs.Machine.{CanStep, new_words, pool_step};
 ghost use Rattle.rws_select.specs.Choice.{HasScorer};
 ghost use Rattle.rws_worker.specs.Stepping.{IsIdle};
-ghost use Rattle.rws_worker.specs.Working.{DoesAll, GoesSo, IsUnderway, WithWords, Works, end_by, is_end};
+ghost use Rattle.rws_worker.specs.Working.{DoesAll, GoesSo, HasBegun, IsUnderway, WithWords, Works, end_by, is_end};
 ghost use Rattle.rws_worker.specs.declared.work.Next.TheVariants as Next;
 ghost use Rattle.rws_worker.specs.declared.work.WorkEnd.TheVariants.{BoardFailed};
 
@@ -81,6 +81,7 @@ fn handle_next<B: Board, F: Fn(&Load) -> u64 + Sync>(
 ) -> Option<WorkEnd>
     requires allowed { IsAllowed config.now }
     requires scorer { HasScorer F.Fn selector.now }
+    requires begun { HasBegun config.now (λ start. B.did start board.old) words.old worker.old events.old }
     requires idle { IsIdle worker.old }
     ensures goes { (start : B) (first : PoolWords) → first ≡ new_words config.now.gtid_domain
         → IsUnderway config.now (WithWords (B.did start board.old) first words.old) worker.old events.old 0
@@ -140,7 +141,9 @@ fn do_all<B: Board, F: Fn(&Load) -> u64 + Sync>(
     config: &Config,
     selector: &Selector<F>,
 ) -> Result<bool, BoardFault>
+    requires allowed { IsAllowed config.now }
     requires scorer { HasScorer F.Fn selector.now }
+    requires begun { (events : ℕ) × HasBegun config.now (λ start. B.did start board.old) words.old worker.old events }
     ensures acts { (start : B) (first : PoolWords) (events : ℕ) → first ≡ new_words config.now.gtid_domain
         → IsUnderway config.now (WithWords (B.did start board.old) first words.old) worker.old events 0
         → DoesAll config.now (WithWords (B.did start board.new) first words.new) worker.new events result }
@@ -166,7 +169,9 @@ fn do_next<B: Board, F: Fn(&Load) -> u64 + Sync>(
     config: &Config,
     selector: &Selector<F>,
 ) -> Result<Next, BoardFault>
+    requires allowed { IsAllowed config.now }
     requires scorer { HasScorer F.Fn selector.now }
+    requires begun { (events : ℕ) × HasBegun config.now (λ start. B.did start board.old) words.old worker.old events }
     ensures acts { (start : B) (first : PoolWords) (events things : ℕ) → first ≡ new_words config.now.gtid_domain
         → IsUnderway config.now (WithWords (B.did start board.old) first words.old) worker.old events things → MatchResult result
         (λ next. GoesSo config.now (WithWords (B.did start board.new) first words.new) worker.new events things next)

@@ -2,13 +2,14 @@
 //!
 //! Between two turns each session that isn't over rests, or asks for the words of the pool; a session that is over is
 //! forgotten. An owner may be there for a link that its session has given up since: then the session hears nothing.
-ghost use Rattle.std.specs.Prelude.{◌≡◌, ◌∷◌, ◌≤◌, ◌+◌, ◌^◌, ℕ, List, [], MatchOption, None, true, false, not};
+ghost use Rattle.std.specs.Prelude.{◌≡◌, ◌∷◌, ◌++◌, ◌≤◌, ◌+◌, ◌^◌, ℕ, List, [], MatchOption, None, true, false, not};
 ghost use Rattle.rws_board.specs.declared.event.Event.{Event};
+ghost use Rattle.rws_board.specs.declared.interaction.Interaction.{Interaction};
 ghost use Rattle.rws_config.specs.Allowed.{IsAllowed};
 ghost use Rattle.rws_config.specs.declared.config.Config.{Config};
 ghost use Rattle.rws_record.specs.Run.{Entry};
-ghost use Rattle.rws_worker.specs.Standing.{GivesOr, Steps, WorkerStands};
-ghost use Rattle.rws_worker.specs.Stepping.{Fetches, IsIdle, is_awaiting};
+ghost use Rattle.rws_worker.specs.Standing.{GivesOr, Steps, WorkerStands, interactions_of};
+ghost use Rattle.rws_worker.specs.Stepping.{Fetches, IsIdle, done_ahead, is_awaiting};
 ghost use Rattle.rws_worker.specs.Working.{CanBeDone};
 
 mod answering;
@@ -126,7 +127,10 @@ impl Worker {
     pub fn step(&mut self, config: &Config) -> Step
         ensures steps { (run : List Entry) → WorkerStands config.now self.old run → is_awaiting self.old.asker ≡ false
             → Steps config.now run result self.old self.new }
-        ensures can { (domain : ℕ) → CanBeDone domain result }
+
+        // The words can take a step of the pool that comes: a commit is of a server that they know, and of their domain.
+        ensures can { (run : List Entry) (done : List Interaction) → WorkerStands config.now self.old run → is_awaiting self.old.asker ≡ false
+            → IsAllowed config.now → interactions_of run ≡ done ++ done_ahead self.old → CanBeDone config.now.gtid_domain result }
     {
         if self.spent {
             return Step::Spent;
@@ -146,7 +150,6 @@ impl Worker {
             → Fetches result self.old self.new }
         ensures stands { (config : Config) (run : List Entry) → WorkerStands config self.old run
             → WorkerStands config self.new run }
-        ensures can { (domain : ℕ) → MatchOption result (Unit {0}) (λ step. CanBeDone domain step) }
         ensures telling { self.new.telling ≡ self.old.telling }
     {
         match self.next_round() {
@@ -162,12 +165,10 @@ impl Worker {
             → Fetches result self.old self.new }
         ensures stands { (config : Config) (run : List Entry) → WorkerStands config self.old run
             → WorkerStands config self.new run }
-        ensures can { (domain : ℕ) → MatchOption result (Unit {0}) (λ step. CanBeDone domain step) }
         ensures telling { self.new.telling ≡ self.old.telling }
     {
-        if let Some(action) = self.next_out() {
-            self.release_dropped(&action);
-            return Some(Step::Act(action));
+        if let Some(output) = self.next_out() {
+            return Some(self.step_for(output));
         }
         if let Some(step) = self.next_route() {
             return Some(step);

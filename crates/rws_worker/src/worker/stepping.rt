@@ -6,8 +6,7 @@ ghost use Rattle.rws_config.specs.declared.config.Config.{Config};
 ghost use Rattle.rws_record.specs.Run.{Entry};
 ghost use Rattle.rws_worker.specs.declared.ahead.Ahead.TheVariants.{Nothing};
 ghost use Rattle.rws_worker.specs.Standing.{WorkerStands};
-ghost use Rattle.rws_worker.specs.Stepping.{Routes, broken_by, farewell_ahead, going_in, endings, links_ahead, outs_ahead, outs_of_seat};
-ghost use Rattle.rws_worker.specs.Working.{CanBeDone};
+ghost use Rattle.rws_worker.specs.Stepping.{Routes, broken_by, farewell_ahead, going_in, endings, links_ahead, outs_ahead, outs_of_seat, step_for};
 
 use crate::ahead::Ahead;
 use crate::asker::Asker;
@@ -15,13 +14,14 @@ use crate::worker::beginning::LAST_LINK;
 use crate::{Step, Worker};
 use rws_board::Action;
 use rws_pool::PoolCall;
+use rws_record::Output;
 use rws_wire::{CloseReason, DropCause};
 
 impl Worker {
     /// The oldest output of the session that the last event was for.
-    pub(super) fn next_out(&mut self) -> Option<Action>
+    pub(super) fn next_out(&mut self) -> Option<Output>
         ensures out { MatchOption result ((outs_ahead self.old ≡ []) × (outs_ahead self.new ≡ []))
-            (λ action. outs_ahead self.old ≡ action ∷ outs_ahead self.new) }
+            (λ output. outs_ahead self.old ≡ output ∷ outs_ahead self.new) }
         ensures endings { endings self.new ≡ endings self.old }
         ensures rest { self.new ≡ record self.old { sessions = self.new.sessions; ahead = self.new.ahead } }
         ensures stands { (config : Config) (run : List Entry) → WorkerStands config self.old run → WorkerStands config self.new run }
@@ -33,10 +33,10 @@ impl Worker {
     }
 
     /// The oldest output of a session that goes on.
-    fn next_of(&mut self, session: u32) -> Option<Action>
+    fn next_of(&mut self, session: u32) -> Option<Output>
         ensures out { MatchOption result
             ((outs_of_seat (get nat_cmp self.old.sessions session) ≡ []) × (outs_of_seat (get nat_cmp self.new.sessions session) ≡ []))
-            (λ action. outs_of_seat (get nat_cmp self.old.sessions session) ≡ action ∷ outs_of_seat (get nat_cmp self.new.sessions session)) }
+            (λ output. outs_of_seat (get nat_cmp self.old.sessions session) ≡ output ∷ outs_of_seat (get nat_cmp self.new.sessions session)) }
         ensures rest { self.new ≡ record self.old { sessions = self.new.sessions } }
         ensures stands { (config : Config) (run : List Entry) → going_in self.old.ahead ≡ Some session → WorkerStands config self.old run
             → WorkerStands config self.new run }
@@ -53,7 +53,6 @@ impl Worker {
         ensures route { Routes result self.old self.new }
         ensures stands { (config : Config) (run : List Entry) → WorkerStands config self.old run → outs_ahead self.old ≡ []
             → WorkerStands config self.new run }
-        ensures can { (domain : ℕ) → MatchOption result (Unit {0}) (λ step. CanBeDone domain step) }
         ensures telling { self.new.telling ≡ self.old.telling }
     {
         match self.asker {
@@ -86,7 +85,6 @@ impl Worker {
         ensures asker { self.new.asker ≡ self.old.asker }
         ensures telling { self.new.telling ≡ self.old.telling }
         ensures stands { (config : Config) (run : List Entry) → WorkerStands config self.old run → WorkerStands config self.new run }
-        ensures can { (domain : ℕ) → MatchOption result (Unit {0}) (λ step. CanBeDone domain step) }
     {
         if let Some(step) = self.next_broken() {
             return Some(step);
@@ -113,7 +111,6 @@ impl Worker {
         ensures outs { outs_ahead self.new ≡ outs_ahead self.old }
         ensures rest { self.new ≡ record self.old { ahead = self.new.ahead; broken = None } }
         ensures stands { (config : Config) (run : List Entry) → WorkerStands config self.old run → WorkerStands config self.new run }
-        ensures can { (domain : ℕ) → MatchOption result (Unit {0}) (λ step. CanBeDone domain step) }
     {
         let Some(session) = self.broken.take() else {
             return None;
@@ -138,8 +135,24 @@ impl Worker {
         Some(link)
     }
 
+    /// What is to be done for something that a session gave out. Where that gives a link up, whose it was is forgotten.
+    pub(super) fn step_for(&mut self, output: Output) -> Step
+        ensures step { result ≡ step_for output }
+        ensures stands { (config : Config) (run : List Entry) → WorkerStands config self.old run
+            → WorkerStands config self.new run }
+        ensures rest { self.new ≡ record self.old { owners = self.new.owners } }
+    {
+        match output {
+            Output::Act(action) => {
+                self.release_dropped(&action);
+                Step::Act(action)
+            }
+            Output::Record { server, gtid } => Step::Call(PoolCall::Record { server, gtid }),
+        }
+    }
+
     /// Forgets whose a link was that an action gives up.
-    pub(super) fn release_dropped(&mut self, action: &Action)
+    fn release_dropped(&mut self, action: &Action)
         ensures stands { (config : Config) (run : List Entry) → WorkerStands config self.old run
             → WorkerStands config self.new run }
         ensures rest { self.new ≡ record self.old { owners = self.new.owners } }

@@ -1,4 +1,4 @@
-use Rattle.std.proofs.Common.{◌≡◌, ◌∙◌, ℕ}
+use Rattle.std.proofs.Common.{◌∙◌}
 use Rattle.rws_worker.specs.Tallies.{plus, tally_in}
 use Rattle.rws_worker.proofs.TallyLemmas.{minus_plus, seven_same}
 use Rattle.rws_worker.proofs.tally.without.Goals as goal

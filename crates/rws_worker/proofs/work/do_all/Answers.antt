@@ -1,8 +1,20 @@
 use Rattle.std.proofs.Common.{arith, subst}
 use Rattle.rws_worker.specs.Working.{GoesSo, WithWords}
 use Rattle.rws_worker.specs.declared.work.Next.{Next}
-use Rattle.rws_worker.proofs.WorkLemmas.{ends_countless}
+use Rattle.rws_worker.proofs.WorkLemmas.{ends_countless, is_underway}
 use Rattle.rws_worker.proofs.work.do_all.Goals as goal
+
+pub do_next-requires-clause-begun : goal.do_next-requires-clause-begun
+do_next-requires-clause-begun g c κs within =
+    let begun = c.requires.begun.1 in (
+      c.requires.begun.0,
+      record {
+        start = begun.start;
+        first = begun.first;
+        is_new = begun.is_new;
+        underway = is_underway (c.loop.invariant.0 begun.start begun.first c.requires.begun.0 begun.is_new begun.underway);
+      },
+    )
 
 pub loop-init : goal.loop-init
 loop-init g c = (λ start first events is u. u, omega arith)

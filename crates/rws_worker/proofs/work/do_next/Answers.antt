@@ -5,11 +5,14 @@ use Rattle.rws_worker.specs.Stepping.{is_route}
 use Rattle.rws_worker.specs.Working.{GoesSo, WithWords}
 use Rattle.rws_worker.specs.declared.step.Step.TheVariants.{Idle, Act, Call, Broken, Spent}
 use Rattle.rws_worker.specs.declared.work.Next.{Next}
-use Rattle.rws_worker.proofs.WorkLemmas.{acts_so, ends_failing, ends_spent, underway_called, underway_idle, words_at_call}
+use Rattle.rws_worker.proofs.WorkLemmas.{acts_so, can_take, ends_failing, ends_spent, underway_called, underway_idle, words_at_call}
 use Rattle.rws_worker.proofs.work.do_next.Goals as goal
 
 pub call_out-requires : goal.call_out-requires
-call_out-requires g c = record { can = c.in-Call.ensures.can c.args.words.now.last.domain }
+call_out-requires g c =
+    let begun = c.requires.begun.1 in
+    let u = begun.underway in
+    record { can = can_take begun c.in-Call.call (c.in-Call.ensures.can u.run u.done u.stands u.answered c.requires.allowed u.parted) }
 
 pub returns-in-Idle-clause-acts : goal.returns-in-Idle-clause-acts
 returns-in-Idle-clause-acts g c = λ start first events things is u.

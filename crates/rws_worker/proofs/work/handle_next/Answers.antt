@@ -7,6 +7,25 @@ use Rattle.rws_worker.specs.Standing.{interactions_of}
 use Rattle.rws_worker.proofs.WorkLemmas.{all_done, at_end, ends_unbegun, goes_given, not_at_end, resting, unbegun_given, underway_given, words_at_event}
 use Rattle.rws_worker.proofs.work.handle_next.Goals as goal
 
+pub do_all-requires-clause-begun : goal.do_all-requires-clause-begun
+do_all-requires-clause-begun g c κs within =
+    let begun = c.requires.begun in
+    let u = begun.underway in
+    let d = all_done u c.requires.idle in
+    let no_end : is_end c.in-Ok.event ≡ false = sym c.is_end.ensures ∙ c.if-is_end.false in
+    let more : c.args.events.now + 1 < 2 ^ 32 = (let f = u.few in let h = c.if-events-eq4294967295.false in omega arith) in (
+      c.args.events.now + 1,
+      record {
+        start = begun.start;
+        first = begun.first;
+        is_new = begun.is_new;
+        underway = underway_given u c.in-Ok.event no_end c.give.new.self
+            (goes_given c.args.config.now u.run c.in-Ok.event c.args.worker.now c.give.new.self (c.give.ensures.advances u.run u.stands) (sym c.is_spent.ensures ∙ c.if-is_spent.false)) more
+            (not_at_end (WithWords (g.B.Board.did begun.start c.next.new.self) begun.first c.args.words.now) (interactions_of u.run) c.in-Ok.event no_end
+            (c.in-Ok.ensures.did begun.start (interactions_of u.run) d.0, words_at_event begun.first c.args.words.now (interactions_of u.run) c.in-Ok.event d.1));
+      },
+    )
+
 pub returns-in-Err-Failed-clause-goes : goal.returns-in-Err-Failed-clause-goes
 returns-in-Err-Failed-clause-goes g c = λ start first is u.
     let d = all_done u c.requires.idle in

@@ -1,5 +1,4 @@
-use Rattle.std.proofs.Common.{◌≡◌, true, false, ap, sym, ◌∙◌, subst, refl}
-use Rattle.rws_worker.specs.declared.asker.Asker.{Asker}
+use Rattle.std.proofs.Common.{◌≡◌, true, false, ap, sym, ◌∙◌}
 use Rattle.rws_worker.specs.Stepping.{is_awaiting}
 use Rattle.rws_worker.proofs.worker.Worker.answer.Goals as goal
 

@@ -1,4 +1,4 @@
-use Rattle.std.proofs.Common.{◌≡◌, sym, subst, refl, inr}
+use Rattle.std.proofs.Common.{sym, subst, refl, inr}
 use Rattle.rws_board.specs.declared.event.Event.{Event}
 use Rattle.rws_board.specs.declared.event.Event.TheVariants as events
 use Rattle.rws_record.specs.Run.{owner}

@@ -1,5 +1,4 @@
-use Rattle.std.proofs.Common.{◌≡◌, ℕ, sym, List, [], ◌∷◌, refl, ap, ◌∙◌, Option, Some, None, MatchOption}
-use Rattle.rws_board.specs.declared.action.Action.{Action}
+use Rattle.std.proofs.Common.{sym}
 use Rattle.rws_session.specs.Kept.{Kept}
 use Rattle.rws_worker.proofs.MapLemmas.{written}
 use Rattle.rws_worker.proofs.StandLemmas.{fetched_same, stands_fetching}

@@ -1,4 +1,4 @@
-use Rattle.std.proofs.Common.{ap, ◌∙◌, sym, subst, [], ◌≡◌, false}
+use Rattle.std.proofs.Common.{ap, ◌∙◌, sym, subst}
 use Rattle.rws_worker.specs.declared.worker.Worker.{Worker}
 use Rattle.rws_worker.specs.Standing.{WorkerStands}
 use Rattle.rws_worker.specs.Stepping.{endings, outs_ahead, routes_by}

@@ -1,4 +1,4 @@
-use Rattle.std.proofs.Common.{None, false, sym, ◌∙◌}
+use Rattle.std.proofs.Common.{None, sym, ◌∙◌}
 use Rattle.rws_worker.proofs.MapLemmas.{changes}
 use Rattle.rws_worker.proofs.StandLemmas.{stands_released}
 use Rattle.rws_worker.proofs.worker.Worker.release.Goals as goal

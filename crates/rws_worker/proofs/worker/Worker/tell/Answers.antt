@@ -1,13 +1,9 @@
-use Rattle.std.proofs.Common.{◌≡◌, ◌++◌, ℕ, sym, ap, subst, ◌∙◌, refl, Option, Some, None, [], List}
+use Rattle.std.proofs.Common.{◌≡◌, sym, ap, ◌∙◌, refl, None}
 use Rattle.std.specs.Option.{option_copied_mut}
 use Rattle.std.specs.BTreeMap.{get}
 use Rattle.std.specs.Ordering.{nat_cmp}
-use Rattle.rws_record.specs.Item.{Item}
-use Rattle.rws_record.specs.Run.{record_of, untold}
 use Rattle.rws_session.specs.Kept.{Kept}
 use Rattle.rws_worker.specs.declared.worker.Worker.{Worker}
-use Rattle.rws_worker.specs.Standing.{IsSeated, SeatStands, ToTell}
-use Rattle.rws_worker.specs.Telling.{CountsOut}
 use Rattle.rws_worker.proofs.MapLemmas.{written}
 use Rattle.rws_worker.proofs.TellLemmas.{tells_nobody, tells_one}
 use Rattle.rws_worker.proofs.worker.Worker.tell.Goals as goal

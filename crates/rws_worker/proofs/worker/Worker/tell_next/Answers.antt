@@ -1,4 +1,3 @@
-use Rattle.std.proofs.Common.{true, false}
 use Rattle.rws_worker.proofs.ClockLemmas.{all_were_told, further, tells_next}
 use Rattle.rws_worker.proofs.worker.Worker.tell_next.Goals as goal
 
