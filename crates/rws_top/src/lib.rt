@@ -11,6 +11,10 @@ mod trace;
 pub use run::run_here;
 
 #[cfg(test)]
+mod causal;
+#[cfg(test)]
+mod cutting;
+#[cfg(test)]
 mod results;
 #[cfg(test)]
 mod routes;

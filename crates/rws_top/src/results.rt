@@ -30,7 +30,7 @@ const RESULTS: [(&[u8], &[u8]); 5] = [
     // an OK with a session state, which the client gets without it
     (
         b"begin 1 0\nobserve 0=master:5\nclient 1 020000000378\nlink 1 1b0000010001000240000000120010096c6173745f6774696405302d312d37\n",
-        b"observed\nroute 1\nlink 1 020000000378\nclient 1 0700000100010002000000\nend 4\n",
+        b"observed\nroute 1\nlink 1 020000000378\nrecord 0 0-1-7\nclient 1 0700000100010002000000\nend 4\n",
     ),
 ];
 

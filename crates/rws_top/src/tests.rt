@@ -1,5 +1,6 @@
 //! What no contract says: that a run succeeds with ample memory, and traces from outside.
 use super::*;
+use crate::causal::{LOCAL, NOTHING};
 use crate::routes::SEVEN_SERVERS;
 use rws_board::{CallList, FileList, MemFiles, MemSink, MemSource};
 use rws_select::Load;
@@ -82,7 +83,7 @@ const EIGHT_SERVERS: &[u8] =
 const ONE_SESSION: &[u8] =
     b"version = 1\nsessions = 1\n[[server]]\nname = \"a\"\naddress = \"127.0.0.1:3306\"\n[[account]]\nuser = \"app\"\npassword = \"\"\n";
 
-/// The files that the program may read: `settings`, `eight`, `single` and `seven`.
+/// The files that the program may read.
 fn files(alloc: Global, fails: &[u64]) -> Result<MemFiles, Fail> {
     let mut files = FileList::new(alloc);
     files.push(
@@ -100,6 +101,14 @@ fn files(alloc: Global, fails: &[u64]) -> Result<MemFiles, Fail> {
     files.push(
         Text::from_slice(alloc, b"seven")?,
         Text::from_slice(alloc, SEVEN_SERVERS)?,
+    )?;
+    files.push(
+        Text::from_slice(alloc, b"local")?,
+        Text::from_slice(alloc, LOCAL)?,
+    )?;
+    files.push(
+        Text::from_slice(alloc, b"none")?,
+        Text::from_slice(alloc, NOTHING)?,
     )?;
     Ok(MemFiles::new(files, CallList::from_slice(alloc, fails)?))
 }
