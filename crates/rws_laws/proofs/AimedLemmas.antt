@@ -13,12 +13,12 @@ use Rattle.rws_record.specs.Record.{IsBeginning, IsInput, IsRecord}
 use Rattle.rws_record.specs.Record.IsRecord.{begins, steps, answers, hears, starves}
 use Rattle.rws_record.proofs.StepLemmas.{Due, Step, of_next}
 use Rattle.rws_record.proofs.StepLemmas.Due.{comes, connects, takes}
-use Rattle.rws_record.proofs.StepLemmas.Step.{pays, asks, prepares, forgets, plays, sends, floods, reads}
+use Rattle.rws_record.proofs.StepLemmas.Step.{pays, asks, prepares, forgets, plays, sends, waits_first, probes_first, floods, reads}
 use Rattle.rws_laws.specs.Laws.{GoesWhereFound}
 use Rattle.rws_laws.proofs.CausesLemmas.{causes}
 use Rattle.rws_laws.proofs.GoingLemmas.{Aimed, HasAssigned, goes_with, legal_going}
 use Rattle.rws_laws.proofs.Sound.{Caused}
-use Rattle.rws_laws.proofs.Sound.Caused.{nothing, drops, leaves, closes, hands, opens, logs_on, tells}
+use Rattle.rws_laws.proofs.Sound.Caused.{nothing, drops, leaves, closes, hands, opens, logs_on, tells, records}
 use Rattle.rws_laws.proofs.SoundLemmas.{legal_sound}
 use Rattle.rws_laws.proofs.WantedLemmas.{Ends, legal_ends}
 use Rattle.rws_laws.proofs.WantedLemmas.Ends.{tells as is_to_tell, closes as is_to_close, leaves as is_to_leave}
@@ -37,6 +37,7 @@ caused_unsent (closes cause) = refl
 caused_unsent (hands cause rest) = refl
 caused_unsent (opens cause) = refl
 caused_unsent (logs_on cause) = refl
+caused_unsent (records cause rest) = refl
 caused_unsent (tells cause rest) = refl
 
 farewells_unsent : (list : List ℕ) → is_sending (map (λ link. Drops link End) list) ≡ false
@@ -76,7 +77,9 @@ module _ (config : Config) (past : List Item) (link : ℕ) (purpose : Purpose) w
   by_step legal (asks o n p g w) is = absurd cc
   by_step legal (prepares o n has f) is = record { legal = legal; owes = o; goes = n }
   by_step legal (plays o n has f t s) is = record { legal = legal; owes = o; goes = n }
-  by_step legal (sends o n p s g f t d i) is = record { legal = legal; owes = o; goes = n }
+  by_step legal (sends o n p s g f t d i v) is = record { legal = legal; owes = o; goes = n }
+  by_step legal (waits_first o n p s g f t d v) is = record { legal = legal; owes = o; goes = n }
+  by_step legal (probes_first o n p s g f t d v) is = record { legal = legal; owes = o; goes = n }
   by_step legal (forgets o n has f t) is = absurd cc
   by_step legal (floods o n p above) is = absurd cc
   by_step legal (reads o n due) is = by_due due is

@@ -3,13 +3,15 @@ use Rattle.std.proofs.Common.{◌≡◌, ℕ, Bool, false, true, List, [], ◌�
 use Rattle.std.specs.Prelude.{◌⊎◌, ◌==◌, Contains, if◌then◌else◌}
 use Rattle.std.proofs.lemmas.Bool.{eq-eqb, eqb-true}
 use Rattle.rws_link.specs.Stepping.{Exchange, LinkState, Rests}
+use Rattle.rws_routing.specs.declared.routing.Check.{Check}
 use Rattle.rws_config.specs.declared.config.Config.{Config}
+use Rattle.rws_laws.specs.Servers.{asks_first}
 use Rattle.rws_commands.specs.declared.command.Command.{Command}
 use Rattle.rws_record.specs.Item.{Item, Purpose}
 use Rattle.rws_record.specs.Item.Item.{Puts}
 use Rattle.rws_record.specs.Item.Put.{Routes, Sends}
-use Rattle.rws_record.specs.Item.Purpose.{Prepares, Asks, Plays}
-use Rattle.rws_record.specs.Values.{asking_for, statements, asked_on, asking, cursor, fronted, or_link, goes_on, is_up, links, contains, exchange, linked, pending, routing, sent_on, told, is_over, pinned}
+use Rattle.rws_record.specs.Item.Purpose.{Prepares, Plays}
+use Rattle.rws_record.specs.Values.{asking_by_check, asking_for, statements, asked_on, asking, cursor, fronted, or_link, goes_on, is_up, links, contains, exchange, linked, pending, routing, sent_on, told, is_over, pinned}
 use Rattle.rws_record.specs.Rules.{ask_by, due_on, due_sends, is_link, next, is_free, owed, play_by, prepare_by, ◌or◌}
 use Rattle.rws_record.specs.Record.{IsRecord}
 use Rattle.rws_record.specs.Run.{record_of}
@@ -21,13 +23,13 @@ use Rattle.rws_record.proofs.RecordLemmas.{IsStill, contained, rests_each, each_
 use Rattle.rws_record.proofs.WantLemmas.{unstarved}
 use Rattle.rws_laws.specs.Answers.{HasAnswered, IsAnswered, IsIdle, Waits}
 use Rattle.rws_laws.specs.Answers.IsIdle.{at_rest, at_login}
-use Rattle.rws_laws.specs.Answers.Waits.{for_primary, for_link, for_entry, for_reply, for_account}
+use Rattle.rws_laws.specs.Answers.Waits.{for_primary, for_link, for_entry, for_check, for_reply, for_account}
 use Rattle.rws_laws.specs.Laws.{Answered, AnsweredInRuns}
 use Rattle.rws_laws.proofs.FrontLemmas.{front_says, idles_so, steady}
 use Rattle.rws_laws.proofs.EnteringLemmas.{is_entering, legal_entering}
 use Rattle.rws_laws.proofs.Sound.{Sound, WaitsOn, handle}
-use Rattle.rws_laws.proofs.Sound.WaitsOn.{prepares, repeats, replies}
-use Rattle.rws_laws.proofs.SoundLemmas.{legal_sound}
+use Rattle.rws_laws.proofs.Sound.WaitsOn.{prepares, repeats, checks, replies}
+use Rattle.rws_laws.proofs.SoundLemmas.{legal_checking, legal_sound}
 use Rattle.rws_commands.specs.declared.history.HistoryEntry.{HistoryEntry}
 use Rattle.rws_commands.specs.Commands.{id_for}
 use Rattle.rws_commands.specs.Statements.{stale_on, unplayed}
@@ -71,13 +73,13 @@ module _ (config : Config) (past : List Item) (legal : IsRecord config past) (qu
   nothing_on : (link : ℕ) → contains link (links past) ≡ true
       → (prepare_by (is_free false link past) link ≡ None)
       × (play_by (is_free true link past) link (stale_on link (statements config past)) (unplayed (cursor link past) (statements config past)) ≡ None)
-      × (ask_by (is_free true link past) link (stale_on link (statements config past)) (is_link link (goes_on config past)) (asking_for (pending past) link (statements config past).table.links) (sent_on past) ≡ None)
+      × (ask_by (is_free true link past) link (stale_on link (statements config past)) (is_link link (goes_on config past)) (asking_for config.causal_timeout_s (routing config past).check (pending past) link (statements config past).table.links) (sent_on past) ≡ None)
   nothing_on link here =
       let all = neither (prepare_by (is_free false link past) link) (play_by (is_free true link past) link (stale_on link (statements config past)) (unplayed (cursor link past) (statements config past))
-      or ask_by (is_free true link past) link (stale_on link (statements config past)) (is_link link (goes_on config past)) (asking_for (pending past) link (statements config past).table.links) (sent_on past))
+      or ask_by (is_free true link past) link (stale_on link (statements config past)) (is_link link (goes_on config past)) (asking_for config.causal_timeout_s (routing config past).check (pending past) link (statements config past).table.links) (sent_on past))
       (none_due config past (links past) link now.sent here) in
       let behind = neither (play_by (is_free true link past) link (stale_on link (statements config past)) (unplayed (cursor link past) (statements config past)))
-      (ask_by (is_free true link past) link (stale_on link (statements config past)) (is_link link (goes_on config past)) (asking_for (pending past) link (statements config past).table.links) (sent_on past)) all.1 in
+      (ask_by (is_free true link past) link (stale_on link (statements config past)) (is_link link (goes_on config past)) (asking_for config.causal_timeout_s (routing config past).check (pending past) link (statements config past).table.links) (sent_on past)) all.1 in
       (all.0, behind.0, behind.1)
 
   -- a link that isn't prepared doesn't rest
@@ -106,18 +108,23 @@ module _ (config : Config) (past : List Item) (legal : IsRecord config past) (qu
   abbrev PlaysOn : ℕ → Type 0
   PlaysOn link = (entry : HistoryEntry) × (e : Exchange) × (asked_on link past ≡ Some (Plays entry)) × (exchange link past ≡ Some e)
 
+  -- or its server is asked something before the command
+  abbrev ChecksOn : ℕ → Type 0
+  ChecksOn link = (check : Check) × (e : Exchange) × ((routing config past).check ≡ Some check) × (asks_first (asked_on link past) ≡ Some check) × (exchange link past ≡ Some e)
+
   at_rest_up : (link : ℕ) → contains link (links past) ≡ true → is_up link past ≡ true → sent_on past ≡ None → (found : Option Exchange)
-      → exchange link past ≡ found → (linked link past ≡ Rests) ⊎ PlaysOn link
+      → exchange link past ≡ found → (linked link past ≡ Rests) ⊎ (PlaysOn link ⊎ ChecksOn link)
   at_rest_up link here up s (Some e) x = by_waits (sound.waits link e here x)
     where
       by_waits : WaitsOn link e (asked_on link past) (is_up link past) (pending past) (sent_on past) (handle config past) (told past) (owed config past)
-          → (linked link past ≡ Rests) ⊎ PlaysOn link
+          → (linked link past ≡ Rests) ⊎ (PlaysOn link ⊎ ChecksOn link)
       by_waits (prepares asked down) = let clash : true ≡ false = sym up ∙ down in absurd cc
-      by_waits (repeats {entry = entry} asked) = inr (entry, e, asked, x)
+      by_waits (repeats {entry = entry} asked) = inr (inl (entry, e, asked, x))
+      by_waits (checks {check = check} q) = inr (inr (check, e, (legal_checking legal (unstarved legal o n) link e check here x q).for_it, q, x))
       by_waits (replies awaits) = let clash : None ≡ Some link = sym s ∙ awaits.sent_there in absurd cc
   at_rest_up link here up s None x = by_idling (now.asked link (contained link (links past) here) x)
     where
-      by_idling : Idles (linked link past) → (linked link past ≡ Rests) ⊎ PlaysOn link
+      by_idling : Idles (linked link past) → (linked link past ≡ Rests) ⊎ (PlaysOn link ⊎ ChecksOn link)
       by_idling (rests_now is) = inl is
       by_idling (enters_now is f) = let clash : true ≡ false = sym (ap logs_in is) ∙ legal_up legal link up in absurd cc
 
@@ -133,9 +140,13 @@ module _ (config : Config) (past : List Item) (legal : IsRecord config past) (qu
               let free : is_free true link past ≡ true = rw (here, u, is) refl in
               let itself : (link == link) ≡ true = eq-eqb link link refl in
               let due = (nothing_on link here).2 in
-              let due : ask_by true link (stale_on link (statements config past)) true (Some (Asks command (id_for link command.body (statements config past).table.links))) None ≡ None = rw (free, g, itself, p, s) at due in
-              absurd (some_due link (stale_on link (statements config past)) (Asks command (id_for link command.body (statements config past).table.links)) due)
-          | inr plays ↦ for_entry link plays.0 plays.1 (contained link (links past) here) g s plays.2 plays.3
+              let its = asking_by_check config.causal_timeout_s (routing config past).check command (id_for link command.body (statements config past).table.links) in
+              let due : ask_by true link (stale_on link (statements config past)) true (Some its) None ≡ None = rw (free, g, itself, p, s) at due in
+              absurd (some_due link (stale_on link (statements config past)) its due)
+          | inr waits ↦ elim waits [
+            | inl plays ↦ for_entry link plays.0 plays.1 (contained link (links past) here) g s plays.2 plays.3
+            | inr asks ↦ for_check link asks.0 asks.1 (contained link (links past) here) g s asks.2 asks.3 asks.4
+          ]
         ]
     waits_unsent link g here s false u =
         for_link link (contained link (links past) here) g s u

@@ -8,7 +8,7 @@ use Rattle.rws_routing.specs.Routings.{finds_late, server_in}
 use Rattle.rws_commands.specs.declared.command.Command.{Command}
 use Rattle.rws_record.specs.Item.{Item, Put}
 use Rattle.rws_record.specs.Item.Item.{Accepted, TurnsAway, Began, ClientBytes, LinkReady, LinkBytes, ClientGone, LinkLost, Ticks, Routed, Puts}
-use Rattle.rws_record.specs.Item.Put.{Hands, Tells, Routes, Opens, LogsInto, Sends, Forgets, Drops, Closes}
+use Rattle.rws_record.specs.Item.Put.{Hands, Tells, Records, Routes, Opens, LogsInto, Sends, Forgets, Drops, Closes}
 use Rattle.rws_record.specs.Values.{asking, goes_on, link_to, login_of, now, pending, reply_number, routing, is_over}
 use Rattle.rws_record.specs.Rules.{after_route, owed}
 use Rattle.rws_record.specs.Record.{IsBeginning, IsInput, IsRecord}
@@ -16,7 +16,7 @@ use Rattle.rws_record.specs.Record.IsRecord.{begins, steps, answers, hears, star
 use Rattle.rws_record.proofs.OpeningLemmas.{is_answered, plain_unless_answered}
 use Rattle.rws_record.proofs.StepLemmas.{Due, Step, goes_unasking, of_next}
 use Rattle.rws_record.proofs.StepLemmas.Due.{comes, connects, takes}
-use Rattle.rws_record.proofs.StepLemmas.Step.{pays, asks, prepares, forgets, plays, sends, floods, reads}
+use Rattle.rws_record.proofs.StepLemmas.Step.{pays, asks, prepares, forgets, plays, sends, waits_first, probes_first, floods, reads}
 
 -- the newest item asks, where nothing was owed
 pub data AskedNow (config : Config) : List Item → Type 0 where
@@ -76,6 +76,7 @@ put_unasked : {A : Type 0} (config : Config) (past : List Item) (put : Put) (oth
     → asking past ≡ false → asking (Puts put ∷ past) ≡ true → A
 put_unasked config past Routes others o none some = asks_not config past others o
 put_unasked config past (Hands packets) others o none some = clash none some
+put_unasked config past (Records server gtid) others o none some = clash none some
 put_unasked config past (Tells number tell) others o none some = clash none some
 put_unasked config past (Opens link server its) others o none some = clash none some
 put_unasked config past (Forgets link id) others o none some = clash none some
@@ -96,7 +97,9 @@ step_asked {config} {past} legal (pays {put = put} {others = others} o) none som
 step_asked legal (asks o n p g w) none some = asked_now legal o n p g w
 step_asked legal (prepares o n has f) none some = clash none some
 step_asked legal (plays o n has f t s) none some = clash none some
-step_asked legal (sends o n p s g f t d i) none some = clash none some
+step_asked legal (sends o n p s g f t d i v) none some = clash none some
+step_asked legal (waits_first o n p s g f t d v) none some = clash none some
+step_asked legal (probes_first o n p s g f t d v) none some = clash none some
 step_asked legal (forgets o n has f t) none some = clash none some
 step_asked legal (floods o n p above) none some = clash none some
 step_asked legal (reads o n due) none some = due_unasked due none some

@@ -1,5 +1,5 @@
 -- The reply to a command that was sent is awaited, until its end is passed on or the session is closed.
-use Rattle.std.proofs.Common.{◌≡◌, ℕ, ◌+◌, Bool, true, false, List, [], ◌∷◌, refl, sym, ap, subst, ◌∙◌, Option, Some, None}
+use Rattle.std.proofs.Common.{◌≡◌, ℕ, ◌+◌, Bool, true, false, List, [], ◌∷◌, ◌++◌, drop, refl, sym, ap, subst, ◌∙◌, Option, Some, None}
 use Rattle.std.specs.Prelude.{◌==◌, Contains}
 use Rattle.std.proofs.lemmas.Bool.{eqb-true, eq-eqb}
 use Rattle.rws_wire.specs.declared.drop_cause.DropCause.{DropCause}
@@ -16,6 +16,7 @@ use Rattle.rws_link.specs.declared.step.LinkStep.{LinkStep}
 use Rattle.rws_link.specs.declared.step.LinkStep.TheVariants as steps
 use Rattle.rws_link.specs.Stepping.{LinkState, Awaits, Exchange, Rests, is_some_byte, step, with_part}
 use Rattle.rws_link.specs.declared.step.LinkCause.{LinkCause}
+use Rattle.rws_gtid.specs.declared.Gtid.{Gtid}
 use Rattle.rws_pool.specs.declared.words.PoolWords.{PoolWords}
 use Rattle.rws_select.specs.declared.selector.Load.{Load}
 use Rattle.rws_route.specs.declared.destination.Target.{Target}
@@ -25,20 +26,20 @@ use Rattle.rws_commands.specs.declared.command.Command.{Command}
 use Rattle.rws_record.specs.Item.{Item, Tell, Put}
 use Rattle.rws_record.specs.Item.Item.{Accepted, TurnsAway, Began, ClientBytes, LinkReady, LinkBytes, ClientGone, LinkLost, Ticks, Routed, Comes, Connects, Floods, Puts}
 use Rattle.rws_record.specs.Item.{Purpose}
-use Rattle.rws_record.specs.Item.Purpose.{Prepares, Asks, Plays}
-use Rattle.rws_record.specs.Item.Put.{Hands, Tells, Routes, LogsInto, Sends, Forgets, Drops, Closes}
+use Rattle.rws_record.specs.Item.Purpose.{Prepares, Asks, Plays, Waits, Probes}
+use Rattle.rws_record.specs.Item.Put.{Hands, Tells, Records, Routes, LogsInto, Sends, Forgets, Drops, Closes}
 use Rattle.rws_record.specs.Item.Tell.{Passes, Owns, Refuses}
-use Rattle.rws_record.specs.Values.{asking, links, asked_on, is_up, awaited, exchange, linked, named_in, named_on, sent_all, statements, pending, sent_on, reply_number, told, is_over, is_starved}
-use Rattle.rws_record.specs.Rules.{next, owed, after_answer, found_in, flood_limit, form_of, recording_of}
+use Rattle.rws_record.specs.Values.{asking, links, server_of, asked_on, is_up, awaited, exchange, linked, named_in, named_on, sent_all, statements, pending, sent_on, reply_number, told, is_over, is_starved}
+use Rattle.rws_record.specs.Rules.{next, owed, commit_by, recording_commit, after_answer, found_in, flood_limit, form_of, recording_of}
 use Rattle.rws_record.proofs.LinkedLemmas.{Says, after_part_is}
 use Rattle.rws_record.proofs.LinkedLemmas.Says.{answers, enters, hurries, fails, breaks, part, garbled, wrong, again}
 use Rattle.rws_record.specs.Record.{IsBeginning, IsRecord, IsInput}
 use Rattle.rws_record.specs.Record.IsRecord.{begins, steps as goes, answers as answered, hears, starves}
 use Rattle.rws_record.proofs.StepLemmas.{Due, Step, of_next, rests_owing_nothing}
 use Rattle.rws_record.proofs.StepLemmas.Due.{comes, connects, takes}
-use Rattle.rws_record.proofs.StepLemmas.Step.{pays, asks, prepares as prepares_it, forgets, plays, sends, floods, reads}
+use Rattle.rws_record.proofs.StepLemmas.Step.{pays, asks, prepares as prepares_it, forgets, plays, sends, waits_first, probes_first, floods, reads}
 use Rattle.rws_record.proofs.OpeningLemmas.{asks_owing_nothing}
-use Rattle.rws_laws.specs.Servers.{came_on}
+use Rattle.rws_laws.specs.Servers.{asks_first, came_on}
 use Rattle.rws_laws.proofs.AskedLemmas.{AskedNow, legal_asked}
 use Rattle.rws_laws.proofs.AskedLemmas.AskedNow.{asked_now}
 use Rattle.rws_laws.proofs.CameLemmas.{bytes_keep, legal_came, ready_keeps}
@@ -46,8 +47,8 @@ use Rattle.rws_laws.proofs.Sound.{Caused, Sound, WaitsOn, handle, same_some}
 use Rattle.rws_laws.proofs.SendableLemmas.{sends_something}
 use Rattle.rws_commands.specs.Commands.{asked_under}
 use Rattle.rws_commands.specs.Statements.{next_handle}
-use Rattle.rws_laws.proofs.Sound.WaitsOn.{prepares, repeats, replies}
-use Rattle.rws_laws.proofs.Sound.Caused.{drops, leaves, closes, hands, logs_on, opens, tells}
+use Rattle.rws_laws.proofs.Sound.WaitsOn.{prepares, repeats, checks, replies}
+use Rattle.rws_laws.proofs.Sound.Caused.{drops, leaves, closes, hands, logs_on, opens, tells, records}
 use Rattle.rws_laws.proofs.ListLemmas.{differs, has_it}
 use Rattle.rws_laws.proofs.ReplyLemmas.{unless_before}
 use Rattle.rws_record.proofs.WantLemmas.{input_starved, step_starved, unstarved}
@@ -59,7 +60,13 @@ abbrev ends_it : ℕ → List Put → Bool
 ends_it link (Tells number (Passes from command payload (Some outcome) recording) ∷ others) = true
 ends_it link (Drops lost cause ∷ others) = link == lost
 ends_it link (Closes reason ∷ others) = true
+ends_it link (Records server gtid ∷ others) = ends_it link others
 ends_it link _ = false
+
+-- whatever commit stands in front
+ends_behind : (link server : ℕ) (commit : Option Gtid) (list : List Put) → ends_it link (recording_commit server commit ++ list) ≡ ends_it link list
+ends_behind link server None list = refl
+ends_behind link server (Some gtid) list = refl
 
 -- the reply to what was sent on a link
 data AwaitsOn (config : Config) (link : ℕ) (past : List Item) : Type 0 where
@@ -82,6 +89,15 @@ module _ (config : Config) (past : List Item) (sound : Sound config past) (await
     | awaits a p ↦ awaits (x link ∙ a) (q link ∙ p)
     | settles end ↦ absurd (let e : false ≡ true = sym (not link) ∙ ap (ends_it link) (sym o) ∙ end in cc)
     | over is ↦ over (n ∙ is)
+  ]
+
+  -- a commit is told of
+  record_awaits : (server : ℕ) (gtid : Gtid) (others : List Put) → owed config past ≡ Records server gtid ∷ others
+      → Awaiting config (Puts (Records server gtid) ∷ past)
+  record_awaits server gtid others o = λ link s. elim (awaiting link s) [
+    | awaits a p ↦ awaits a p
+    | settles end ↦ settles (ap (ends_it link) (ap (drop 1) o) ∙ sym (ap (ends_it link) o) ∙ end)
+    | over is ↦ over is
   ]
 
   tell_awaits : (number : ℕ) (tell : Tell) (others : List Put) → owed config past ≡ Tells number tell ∷ others
@@ -110,6 +126,7 @@ module _ (config : Config) (past : List Item) (sound : Sound config past) (await
   put_awaits put others o (leaves {link = gone} {cause = why} lossless cause rest) = drop_awaits gone why others o
   put_awaits put others o (closes {reason = reason} cause) = λ link s. over refl
   put_awaits put others o (hands {packets = packets} cause rest) = quiet (Hands packets) others o (λ link. refl) refl (λ link. refl) (λ link. refl) refl
+  put_awaits put others o (records {server = server} {gtid = gtid} cause rest) = record_awaits server gtid others o
   put_awaits put others o (logs_on {link = to} {packets = packets} cause) = quiet (LogsInto to packets) others o (λ link. refl) refl (λ link. refl) (λ link. refl) refl
   put_awaits put others o (opens cause) = λ link s. let clash : None ≡ Some link = sym cause.0.unsent ∙ s in absurd cc
 
@@ -129,7 +146,8 @@ module _ (config : Config) (past : List Item) (sound : Sound config past) (await
     owed_by : (from : ℕ) (command : Command) (id : Option ℕ) (payload rest : Payload) (number : ℕ) (its : Role) (far : Progress)
         → asked_on from past ≡ Some (Asks command id)
         → owed config (Comes from (steps.Part payload its far number (is_some_byte rest)) ∷ past)
-        ≡ after_answer from command (form_of (handle config past) its payload) (named_in its payload (named_on from past)) far (is_some_byte rest) (reply_number past)
+        ≡ recording_commit (server_of from past) (commit_by config.gtid_domain its payload (Some (Asks command id)))
+        ++ after_answer from command (form_of (handle config past) its payload) (named_in its payload (named_on from past)) far (is_some_byte rest) (reply_number past)
         (λ outcome. recording_of config from past outcome)
     owed_by from command id payload rest number its far a = rw a refl
 
@@ -157,8 +175,16 @@ module _ (config : Config) (past : List Item) (sound : Sound config past) (await
         (λ link same s.
         let mine = its_reply link s in
         let clash : Some (Plays entry) ≡ Some (Asks mine.1 mine.2) = sym asked ∙ ap (λ (l : ℕ). asked_on l past) same ∙ mine.4 in cc)
+    part_awaits from e bytes payload rest number its far is f r p (checks {check = check} q) =
+        beside from (steps.Part payload its far number (is_some_byte rest))
+        (λ link same s.
+        let mine = its_reply link s in
+        let clash : Some check ≡ None = sym q ∙ ap (λ (l : ℕ). asks_first (asked_on l past)) same ∙ ap asks_first mine.4 in cc)
     part_awaits from e bytes payload rest number its (Ends outcome) is f r p (replies waits) = λ link s.
-        settles (ap (ends_it link) (owed_by from waits.command waits.id payload rest number its (Ends outcome) waits.asked_it))
+        settles (ap (ends_it link) (owed_by from waits.command waits.id payload rest number its (Ends outcome) waits.asked_it)
+        ∙ ends_behind link (server_of from past) (commit_by config.gtid_domain its payload (Some (Asks waits.command waits.id)))
+        (after_answer from waits.command (form_of (handle config past) its payload) (named_in its payload (named_on from past)) (Ends outcome) (is_some_byte rest)
+        (reply_number past) (λ its_outcome. recording_of config from past its_outcome)))
     part_awaits from e bytes payload rest number its More is f r p (replies waits) = λ link s. (by_link link s (from == link) refl)
       where
         by_link : (link : ℕ) → sent_on past ≡ Some link → (same : Bool) → (from == link) ≡ same
@@ -252,8 +278,12 @@ step_awaits {config} {past} (prepares_it {link = to} o n k c) sound legal awaiti
     own_awaits config past to Prepares (freed false to past c).2 (its_reply config past sound awaiting o n) (λ link s. s)
 step_awaits {config} {past} (plays {link = to} {entry = entry} o n k c t s) sound legal awaiting =
     own_awaits config past to (Plays entry) (freed true to past c).2 (its_reply config past sound awaiting o n) (λ link s. s)
-step_awaits {config} {past} (sends {link = to} {command = command} {id = id} o n p s k c t d i) sound legal awaiting = send_awaits config past to command id
+step_awaits {config} {past} (sends {link = to} {command = command} {id = id} o n p s k c t d i v) sound legal awaiting = send_awaits config past to command id
     (sends_something config past to command legal p k (freed true to past c).0 d id i)
+step_awaits {config} {past} (waits_first {link = to} {gtid = gtid} o n p s k c t d v) sound legal awaiting =
+    own_awaits config past to (Waits gtid config.causal_timeout_s) (freed true to past c).2 (its_reply config past sound awaiting o n) (λ link s. s)
+step_awaits {config} {past} (probes_first {link = to} {gtid = gtid} o n p s k c t d v) sound legal awaiting =
+    own_awaits config past to (Probes gtid) (freed true to past c).2 (its_reply config past sound awaiting o n) (λ link s. s)
 step_awaits {config} {past} (forgets {link = to} {id = id} o n has f t) sound legal awaiting =
     still config past sound awaiting o n (Puts (Forgets to id)) refl (λ link. refl) (λ link. refl)
 step_awaits {config} {past} (floods o n p above) sound legal awaiting =
@@ -314,6 +344,9 @@ rests_awaiting config past legal rests none n command link p s =
     by_waits e is (repeats {entry = entry} asked) =
         let mine = its_reply config past sound (legal_awaits legal fed) o n link s in
         let clash : Some (Plays entry) ≡ Some (Asks mine.1 mine.2) = sym asked ∙ mine.4 in absurd cc
+    by_waits e is (checks {check = check} q) =
+        let mine = its_reply config past sound (legal_awaits legal fed) o n link s in
+        let clash : Some check ≡ None = sym q ∙ ap asks_first mine.4 in absurd cc
     by_waits e is (replies waits) =
         let same : waits.command ≡ command = same_some waits.command command (sym waits.waits ∙ p) in
         let came = legal_came legal link e is in

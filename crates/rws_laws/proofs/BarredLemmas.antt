@@ -9,7 +9,7 @@ use Rattle.rws_commands.specs.declared.command.Command.{Command}
 use Rattle.rws_commands.specs.declared.judged.Judged.{Judged}
 use Rattle.rws_record.specs.Item.{Item}
 use Rattle.rws_record.specs.Item.Item.{Accepted, TurnsAway, Began, ClientBytes, LinkReady, LinkBytes, ClientGone, LinkLost, Ticks, Routed, Comes, Connects, Takes, Floods, Puts, Starves}
-use Rattle.rws_record.specs.Item.Put.{Hands, Tells, Routes, Opens, LogsInto, Sends, Forgets, Drops, Closes}
+use Rattle.rws_record.specs.Item.Put.{Hands, Tells, Records, Routes, Opens, LogsInto, Sends, Forgets, Drops, Closes}
 use Rattle.rws_record.specs.Item.Purpose.{Asks}
 use Rattle.rws_record.specs.Item.Tell.{Passes, Owns, Refuses}
 use Rattle.rws_commands.specs.Judging.{changes}
@@ -41,6 +41,7 @@ still_bars config past now command less none =
 bars : (config : Config) (past : List Item) → AreCaused config past → Bars config past
 bars config [] caused command p o = absurd cc
 bars config (Puts (Hands packets) ∷ past) caused command p o = bars config past caused.1 command p o
+bars config (Puts (Records server gtid) ∷ past) caused command p o = bars config past caused.1 command p o
 bars config (Puts (Tells number (Passes link its payload (Some ending) recording)) ∷ past) caused command p o = absurd cc
 bars config (Puts (Tells number (Passes link its payload None recording)) ∷ past) caused command p o = bars config past caused.1 command p o
 bars config (Puts (Tells number (Owns status)) ∷ past) caused command p o = bars config past caused.1 command p o

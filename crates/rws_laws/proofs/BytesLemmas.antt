@@ -27,7 +27,7 @@ use Rattle.rws_config.specs.declared.config.Config.{Config}
 use Rattle.rws_config.specs.declared.limits.TheConstants.{SERVER_PAYLOAD}
 use Rattle.rws_record.specs.Item.{Item}
 use Rattle.rws_record.specs.Item.Item.{Accepted, TurnsAway, Began, ClientBytes, LinkReady, LinkBytes, ClientGone, LinkLost, Ticks, Routed, Comes, Connects, Takes, Floods, Puts, Starves}
-use Rattle.rws_record.specs.Item.Put.{Hands, Tells, Routes, Opens, LogsInto, Sends, Forgets, Drops, Closes}
+use Rattle.rws_record.specs.Item.Put.{Hands, Tells, Records, Routes, Opens, LogsInto, Sends, Forgets, Drops, Closes}
 use Rattle.rws_record.specs.Values.{kind_of, link_held, linked, sent_all, sent_for, unread}
 use Rattle.rws_laws.specs.Servers.{came_on, with_said}
 use Rattle.rws_laws.specs.Causes.{AreCaused, IsRead}
@@ -176,6 +176,7 @@ held_fits link (TurnsAway told ∷ past) heard = held_fits link past heard
 held_fits link (Routed words loads next found ∷ past) heard = held_fits link past heard
 held_fits link (Connects said ∷ past) heard = held_fits link past heard
 held_fits link (Puts (Hands packets) ∷ past) heard = held_fits link past heard
+held_fits link (Puts (Records server gtid) ∷ past) heard = held_fits link past heard
 held_fits link (Puts Routes ∷ past) heard = held_fits link past heard
 held_fits link (Puts (Forgets to id) ∷ past) heard = held_fits link past heard
 held_fits link (Puts (LogsInto to packets) ∷ past) heard = held_fits link past heard
@@ -224,6 +225,7 @@ came_fits config link (LinkReady ready ∷ past) caused heard = came_fits config
 came_fits config link (Routed words loads next found ∷ past) caused heard = came_fits config link past caused.2 heard
 came_fits config link (Connects said ∷ past) caused heard = came_fits config link past caused.2 heard
 came_fits config link (Puts (Hands packets) ∷ past) caused heard = came_fits config link past caused.1 heard
+came_fits config link (Puts (Records server gtid) ∷ past) caused heard = came_fits config link past caused.1 heard
 came_fits config link (Puts Routes ∷ past) caused heard = came_fits config link past caused.1 heard
 came_fits config link (Puts (Opens opened server login) ∷ past) caused heard = came_fits config link past caused.1 heard
 came_fits config link (Puts (Forgets to id) ∷ past) caused heard = came_fits config link past caused.1 heard

@@ -22,8 +22,8 @@ use Rattle.rws_link.specs.Stepping.{LinkState, LogsIn, Rests, Awaits, IsLost, Ex
 use Rattle.rws_config.specs.declared.config.Config.{Config}
 use Rattle.rws_record.specs.Item.{Item, Purpose, Put}
 use Rattle.rws_record.specs.Item.Item.{Accepted, TurnsAway, Began, ClientBytes, LinkReady, LinkBytes, ClientGone, LinkLost, Ticks, Comes, Puts}
-use Rattle.rws_record.specs.Item.Purpose.{Prepares, Asks, Plays}
-use Rattle.rws_record.specs.Item.Put.{Hands, Tells, Routes, Opens, LogsInto, Sends, Forgets, Drops, Closes}
+use Rattle.rws_record.specs.Item.Purpose.{Prepares, Asks, Plays, Waits, Probes}
+use Rattle.rws_record.specs.Item.Put.{Hands, Tells, Records, Routes, Opens, LogsInto, Sends, Forgets, Drops, Closes}
 use Rattle.rws_record.specs.Values.{awaited, exchange, kind_of, linked, sent_all, sent_for}
 use Rattle.rws_record.specs.Record.{IsBeginning, IsRecord, IsInput}
 use Rattle.rws_record.specs.Record.IsRecord.{begins, steps as goes, answers as answered, hears, starves}
@@ -31,7 +31,7 @@ use Rattle.rws_record.proofs.LinkedLemmas.{Says, after_loss_is, after_part_is}
 use Rattle.rws_record.proofs.LinkedLemmas.Says.{answers, enters, hurries, fails, breaks, part, garbled, wrong, again}
 use Rattle.rws_record.proofs.StepLemmas.{Due, Step, of_next}
 use Rattle.rws_record.proofs.StepLemmas.Due.{comes, connects, takes}
-use Rattle.rws_record.proofs.StepLemmas.Step.{pays, asks, prepares, forgets, plays, sends, floods, reads}
+use Rattle.rws_record.proofs.StepLemmas.Step.{pays, asks, prepares, forgets, plays, sends, waits_first, probes_first, floods, reads}
 use Rattle.rws_laws.specs.Servers.{came_on, with_said}
 
 -- nothing came yet
@@ -184,6 +184,7 @@ due_came (takes p f) came = came
 
 put_came : (past : List Item) (put : Put) → Came past → Came (Puts put ∷ past)
 put_came past (Hands packets) came = came
+put_came past (Records server gtid) came = came
 put_came past (Tells number tell) came = came
 put_came past Routes came = came
 put_came past (Opens link server login) came = λ other e a. came other e (opening_leaves past link server login other e a)
@@ -198,7 +199,9 @@ step_came {past = past} (pays {put = put} o) came = put_came past put came
 step_came (asks o n p k l) came = came
 step_came {past = past} (prepares {link = to} o n k c) came = sending_came past to Prepares came
 step_came {past = past} (plays {link = to} {entry = entry} o n k c t s) came = sending_came past to (Plays entry) came
-step_came {past = past} (sends {link = to} {command = command} {id = id} o n p s k c t d i) came = sending_came past to (Asks command id) came
+step_came {past = past} (sends {link = to} {command = command} {id = id} o n p s k c t d i v) came = sending_came past to (Asks command id) came
+step_came {past = past} (waits_first {link = to} {gtid = gtid} o n p s g f t d v) came = sending_came past to (Waits gtid _) came
+step_came {past = past} (probes_first {link = to} {gtid = gtid} o n p s g f t d v) came = sending_came past to (Probes gtid) came
 step_came (forgets o n has f t) came = came
 step_came (floods o n p above) came = came
 step_came (reads o n due) came = due_came due came

@@ -4,6 +4,7 @@ use Rattle.std.specs.Prelude.{◌⊎◌, Contains}
 use Rattle.rws_pool.specs.declared.words.PoolWords.{PoolWords}
 use Rattle.rws_select.specs.declared.selector.Load.{Load}
 use Rattle.rws_route.specs.declared.destination.Target.{Target}
+use Rattle.rws_routing.specs.declared.routing.Check.{Check}
 use Rattle.rws_config.specs.declared.config.Config.{Config}
 use Rattle.rws_commands.specs.declared.command.Command.{Command}
 use Rattle.rws_commands.specs.declared.history.HistoryEntry.{HistoryEntry}
@@ -18,7 +19,7 @@ use Rattle.rws_record.specs.Item.{Item, Put}
 use Rattle.rws_record.specs.Item.Item.{Accepted, TurnsAway, Began, ClientBytes, LinkReady, LinkBytes, ClientGone, LinkLost, Ticks, Routed, Comes}
 use Rattle.rws_record.specs.Item.Put.{Drops, Forgets, Sends}
 use Rattle.rws_record.specs.Item.Purpose.{Prepares, Asks, Plays}
-use Rattle.rws_record.specs.Values.{statements, awaited, cursor, fronted, is_up, links, link_held, linked, goes_on, pending, sent_on, unread, is_over, is_starved}
+use Rattle.rws_record.specs.Values.{statements, awaited, cursor, fronted, is_up, links, link_held, linked, goes_on, pending, routing, sent_on, unread, is_over, is_starved}
 use Rattle.rws_record.specs.Rules.{drop_cause, found_in, is_free, next, situation}
 use Rattle.rws_record.specs.Record.{IsBeginning, IsRecord, IsInput}
 use Rattle.rws_record.specs.Record.IsRecord.{begins, steps, answers as answered, hears, starves}
@@ -28,9 +29,9 @@ use Rattle.rws_record.proofs.LinkedLemmas.Says.{answers, enters, hurries, fails,
 use Rattle.rws_record.proofs.WantLemmas.{step_starved}
 use Rattle.rws_record.proofs.StepLemmas.{Due, Step, of_next}
 use Rattle.rws_record.proofs.StepLemmas.Due.{comes, connects, takes}
-use Rattle.rws_record.proofs.StepLemmas.Step.{pays, asks, prepares, forgets, plays, sends, floods, reads}
+use Rattle.rws_record.proofs.StepLemmas.Step.{pays, asks, prepares, forgets, plays, sends, waits_first, probes_first, floods, reads}
 use Rattle.rws_record.proofs.RecordLemmas.{contained, records}
-use Rattle.rws_laws.specs.Causes.{IsCaused, IsBehind, IsRead, AreCaused}
+use Rattle.rws_laws.specs.Causes.{AsksFirst, IsCaused, IsBehind, IsRead, AreCaused}
 use Rattle.rws_laws.specs.Client.{IsPending}
 use Rattle.rws_laws.specs.Client.Took.{took}
 use Rattle.rws_laws.specs.Servers.{IsUnprepared, NotEntered}
@@ -59,10 +60,31 @@ is_pending {command = command} p sound = record { waits = p; asked = (sound.asks
 send_caused : {config : Config} {past : List Item} {link : ℕ} {command : Command} {id : Option ℕ} → pending past ≡ Some command
     → sent_on past ≡ None → goes_on config past ≡ Some link → is_free true link past ≡ true → stale_on link (statements config past) ≡ None
     → unplayed (cursor link past) (statements config past) ≡ None → id_for link command.body (statements config past).table.links ≡ id
-    → Sound config past → ArePrepared past → IsCaused config (Sends link (Asks command id)) past
-send_caused {config} {past = past} {link = link} {command = command} p s g c t d i sound up =
+    → (routing config past).check ≡ None → Sound config past → ArePrepared past → IsCaused config (Sends link (Asks command id)) past
+send_caused {config} {past = past} {link = link} {command = command} p s g c t d i v sound up =
     let free = freed true link past c in
-    (is_pending p sound, s, g, contained link (links past) free.0, free.1, up link free.1, free.2, d, t, i)
+    (is_pending p sound, s, g, contained link (links past) free.0, free.1, up link free.1, free.2, d, t, i, v)
+
+-- and what goes there before one
+check_caused : {config : Config} {past : List Item} {link : ℕ} {command : Command} {check : Check} → pending past ≡ Some command
+    → sent_on past ≡ None → goes_on config past ≡ Some link → is_free true link past ≡ true → stale_on link (statements config past) ≡ None
+    → unplayed (cursor link past) (statements config past) ≡ None → (routing config past).check ≡ Some check
+    → Sound config past → ArePrepared past → AsksFirst config link check past
+check_caused {config} {past = past} {link = link} {command = command} p s g c t d v sound up =
+    let free = freed true link past c in
+    record {
+      command = command;
+      pending = is_pending p sound;
+      unsent = s;
+      goes = g;
+      has = contained link (links past) free.0;
+      up = free.1;
+      prepared = up link free.1;
+      rests = free.2;
+      played = d;
+      kept = t;
+      wanted = v;
+    }
 
 play_caused : (config : Config) (past : List Item) (link : ℕ) (entry : HistoryEntry) → is_free true link past ≡ true
     → stale_on link (statements config past) ≡ None → unplayed (cursor link past) (statements config past) ≡ Some entry → ArePrepared past
@@ -80,11 +102,12 @@ prepare_caused config past link c =
     let free = freed false link past c in (contained link (links past) free.0, not_up (is_up link past) free.1, free.2)
 
 -- what is owed for a link that is lost says why
-wrong_read : {A B C D E : Type 0} → (A ⊎ (B ⊎ (C ⊎ D))) → (A → E) → (B → E) → (C → E) → E ⊎ D
-wrong_read (inl a) of_a of_b of_c = inl (of_a a)
-wrong_read (inr (inl b)) of_a of_b of_c = inl (of_b b)
-wrong_read (inr (inr (inl c))) of_a of_b of_c = inl (of_c c)
-wrong_read (inr (inr (inr d))) of_a of_b of_c = inr d
+wrong_read : {A B C D E F : Type 0} → (A ⊎ (B ⊎ (C ⊎ (D ⊎ F)))) → (A → E) → (B → E) → (C → E) → (D → E) → E ⊎ F
+wrong_read (inl a) of_a of_b of_c of_d = inl (of_a a)
+wrong_read (inr (inl b)) of_a of_b of_c of_d = inl (of_b b)
+wrong_read (inr (inr (inl c))) of_a of_b of_c of_d = inl (of_c c)
+wrong_read (inr (inr (inr (inl d)))) of_a of_b of_c of_d = inl (of_d d)
+wrong_read (inr (inr (inr (inr f)))) of_a of_b of_c of_d = inr f
 
 -- a link says that it is lost, and nothing of a reply
 no_payload : {A : Type 0} (link : ℕ) (cause : LinkCause) (past : List Item) (code : ℕ) → IsUnprepared link code (Comes link (said_by.Lost cause) ∷ past) → A
@@ -101,7 +124,7 @@ lost_read : (config : Config) (past : List Item) (link : ℕ) (cause : LinkCause
     → IsCaused config (Drops link (drop_cause cause)) (Comes link (said_by.Lost cause) ∷ past) → IsRead config (Comes link (said_by.Lost cause)) past
 lost_read config past link losses.BadWire caused = ((caused.0, caused.1), caused.2)
 lost_read config past link losses.BadReply caused =
-    (wrong_read caused.0 (λ a. (a.1, a.3.came)) (λ b. (b.0, b.2.came)) (λ c. (c.1, c.3.came)), caused.1)
+    (wrong_read caused.0 (λ a. (a.1, a.3.came)) (λ b. (b.0, b.2.came)) (λ c. (c.1, c.3.came)) (λ d. (d.1, d.3.came)), caused.1)
 lost_read config past link losses.Unasked caused = caused
 lost_read config past link losses.Greeting caused = caused
 lost_read config past link losses.Plugin caused = caused
@@ -150,7 +173,9 @@ step_caused legal (asks {command = command} o n p g w) sound after entering up b
 step_caused {config} {past} legal (prepares {link = link} o n has c) sound after entering up below = (prepare_caused config past link c, below)
 step_caused {config} {past} legal (plays {link = link} {entry = entry} o n has c t s) sound after entering up below =
     (play_caused config past link entry c t s up, below)
-step_caused legal (sends o n p s g c t d i) sound after entering up below = (send_caused p s g c t d i sound up, below)
+step_caused legal (sends o n p s g c t d i v) sound after entering up below = (send_caused p s g c t d i v sound up, below)
+step_caused legal (waits_first o n p s g c t d v) sound after entering up below = ((check_caused p s g c t d v sound up, refl), below)
+step_caused legal (probes_first o n p s g c t d v) sound after entering up below = (check_caused p s g c t d v sound up, below)
 step_caused {config} {past} legal (forgets {link = link} {id = id} o n has f t) sound after entering up below =
     (forget_caused config past link id f t up, below)
 step_caused legal (floods o n p above) sound after entering up below = (n, noted p above sound, below)

@@ -11,7 +11,7 @@ use Rattle.rws_trx.specs.declared.transaction.Transaction.{Transaction}
 use Rattle.rws_trx.specs.OnLinks.{added, by_course, course_of}
 use Rattle.rws_record.specs.Item.{Item}
 use Rattle.rws_record.specs.Item.Item.{Accepted, TurnsAway, Began, ClientBytes, LinkReady, LinkBytes, ClientGone, LinkLost, Ticks, Routed, Comes, Connects, Takes, Floods, Puts, Starves}
-use Rattle.rws_record.specs.Item.Put.{Hands, Tells, Routes, Opens, LogsInto, Sends, Forgets, Drops, Closes}
+use Rattle.rws_record.specs.Item.Put.{Hands, Tells, Records, Routes, Opens, LogsInto, Sends, Forgets, Drops, Closes}
 use Rattle.rws_record.specs.Item.Tell.{Passes, Owns, Refuses}
 use Rattle.rws_record.specs.Log.{Logged, if_speaks, log, total}
 use Rattle.rws_record.specs.Values.{answer_to, answered_if, class_by_pending, kept_on, length_by, or_link, pending, routing, speaks, told, transaction}
@@ -94,6 +94,7 @@ counted config (Takes it number ∷ past) caused = counted config past caused.2
 counted config (Floods bytes ∷ past) caused = counted config past caused.2
 counted config (Starves made number ∷ past) caused = counted config past caused.3
 counted config (Puts (Hands packets) ∷ past) caused = counted config past caused.1
+counted config (Puts (Records server gtid) ∷ past) caused = counted config past caused.1
 counted config (Puts Routes ∷ past) caused = counted config past caused.1
 counted config (Puts (Opens link server login) ∷ past) caused = counted config past caused.1
 counted config (Puts (Forgets link id) ∷ past) caused = counted config past caused.1

@@ -4,14 +4,14 @@ use Rattle.rws_wire.specs.declared.drop_cause.DropCause.TheVariants.{End}
 use Rattle.rws_config.specs.declared.config.Config.{Config}
 use Rattle.rws_record.specs.Item.{Item, Put}
 use Rattle.rws_record.specs.Item.Item.{Accepted, TurnsAway, Began, ClientBytes, LinkReady, LinkBytes, ClientGone, LinkLost, Ticks, Puts}
-use Rattle.rws_record.specs.Item.Put.{Hands, Tells, Routes, Opens, LogsInto, Sends, Forgets, Drops, Closes}
+use Rattle.rws_record.specs.Item.Put.{Hands, Tells, Records, Routes, Opens, LogsInto, Sends, Forgets, Drops, Closes}
 use Rattle.rws_record.specs.Values.{asking, links, is_over, is_starved}
 use Rattle.rws_record.specs.Rules.{next, owed, farewells}
 use Rattle.rws_record.specs.Record.{IsBeginning, IsRecord, IsInput}
 use Rattle.rws_record.specs.Record.IsRecord.{begins, steps, answers, hears, starves}
 use Rattle.rws_record.proofs.StepLemmas.{Due, Step, of_next, rests_owing_nothing}
 use Rattle.rws_record.proofs.StepLemmas.Due.{comes, connects, takes}
-use Rattle.rws_record.proofs.StepLemmas.Step.{pays, asks, prepares, forgets, plays, sends, floods, reads}
+use Rattle.rws_record.proofs.StepLemmas.Step.{pays, asks, prepares, forgets, plays, sends, waits_first, probes_first, floods, reads}
 use Rattle.rws_laws.proofs.AskedLemmas.{AskedNow, legal_asked}
 use Rattle.rws_laws.proofs.AskedLemmas.AskedNow.{asked_now}
 use Rattle.rws_laws.proofs.LinksLemmas.{farewell_first}
@@ -26,6 +26,7 @@ leaves_put : (config : Config) (past : List Item) (put : Put) (others : List Put
 leaves_put config past (Closes reason) others o leaves = λ over. refl
 leaves_put config past (Tells number tell) others o leaves = λ over. (farewell_first config past (Tells number tell) others o (leaves over)).3
 leaves_put config past (Hands packets) others o leaves = λ over. (farewell_first config past (Hands packets) others o (leaves over)).3
+leaves_put config past (Records server gtid) others o leaves = λ over. (farewell_first config past (Records server gtid) others o (leaves over)).3
 leaves_put config past Routes others o leaves = λ over. (farewell_first config past Routes others o (leaves over)).3
 leaves_put config past (Forgets link id) others o leaves = λ over. (farewell_first config past (Forgets link id) others o (leaves over)).3
 leaves_put config past (LogsInto link packets) others o leaves = λ over. (farewell_first config past (LogsInto link packets) others o (leaves over)).3
@@ -54,7 +55,9 @@ leaves_step {config} {past} (pays {put = put} {others = others} o) leaves = leav
 leaves_step (asks o n p k l) leaves = λ over. absurd cc
 leaves_step (prepares o n k c) leaves = λ over. absurd cc
 leaves_step (plays o n k c t s) leaves = λ over. absurd cc
-leaves_step (sends o n p s k c t d i) leaves = λ over. absurd cc
+leaves_step (sends o n p s k c t d i v) leaves = λ over. absurd cc
+leaves_step (waits_first o n p s g f t d v) leaves = λ over. absurd cc
+leaves_step (probes_first o n p s g f t d v) leaves = λ over. absurd cc
 leaves_step (forgets o n has f t) leaves = λ over. absurd cc
 leaves_step (floods o n p above) leaves = λ over. absurd cc
 leaves_step (reads o n due) leaves = λ over. let not_over = goes_on_here due n in absurd cc

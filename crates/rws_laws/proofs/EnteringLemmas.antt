@@ -16,10 +16,10 @@ use Rattle.rws_front.specs.Laws.{Moves, greets, asks, accepts, accepts_answer, l
 use Rattle.rws_front.proofs.OrderLemmas.{steps_are_moves}
 use Rattle.rws_commands.specs.declared.command.Command.{Command}
 use Rattle.rws_commands.specs.declared.proxy_error.ProxyError.{ProxyError}
-use Rattle.rws_commands.specs.declared.proxy_error.ProxyError.TheVariants.{UnknownCommand, NotSupported, UnknownStatement, BadExecute, TooManyStatements, NotInReadOnly, TooManyConnections, CommandTooLarge, NoPrimary, OutOfMemory}
+use Rattle.rws_commands.specs.declared.proxy_error.ProxyError.TheVariants.{UnknownCommand, NotSupported, UnknownStatement, BadExecute, TooManyStatements, NotInReadOnly, TooManyConnections, CommandTooLarge, NoPrimary, PrimaryBehind, OutOfMemory}
 use Rattle.rws_record.specs.Item.{Item, Put}
 use Rattle.rws_record.specs.Item.Item.{Accepted, TurnsAway, Began, ClientBytes, LinkReady, LinkBytes, ClientGone, LinkLost, Ticks, Routed, Connects, Puts, Starves}
-use Rattle.rws_record.specs.Item.Put.{Hands, Tells, Routes, Opens, LogsInto, Sends, Forgets, Drops, Closes}
+use Rattle.rws_record.specs.Item.Put.{Hands, Tells, Records, Routes, Opens, LogsInto, Sends, Forgets, Drops, Closes}
 use Rattle.rws_record.specs.Item.Recording.{Nothing, Accepts, Keeps}
 use Rattle.rws_record.specs.Item.Tell.{Passes, Owns, Refuses}
 use Rattle.rws_record.specs.Values.{first_login, fronted, login_by, login_of, pending, is_over}
@@ -29,7 +29,7 @@ use Rattle.rws_record.specs.Record.IsRecord.{begins, steps, answers, hears, star
 use Rattle.rws_record.proofs.OpeningLemmas.{asks_owing_nothing}
 use Rattle.rws_record.proofs.StepLemmas.{Due, Step, of_next, rests_owing_nothing}
 use Rattle.rws_record.proofs.StepLemmas.Due.{comes, connects, takes}
-use Rattle.rws_record.proofs.StepLemmas.Step.{pays, asks as routes, prepares, forgets, plays, sends, floods, reads}
+use Rattle.rws_record.proofs.StepLemmas.Step.{pays, asks as routes, prepares, forgets, plays, sends, waits_first, probes_first, floods, reads}
 use Rattle.rws_record.proofs.WantLemmas.{closes_behind, closes_soon}
 use Rattle.rws_laws.proofs.FrontLemmas.{is_ended}
 
@@ -174,10 +174,12 @@ refused_keeps past number TooManyConnections p = p
 refused_keeps past number CommandTooLarge p = p
 refused_keeps past number OutOfMemory p = p
 refused_keeps past number NoPrimary p = absurd cc
+refused_keeps past number (PrimaryBehind wanted found) p = absurd cc
 
 put_entering : {config : Config} {past : List Item} (put : Put) (others : List Put) → owed config past ≡ put ∷ others
     → Entering config past → Entering config (Puts put ∷ past)
 put_entering (Hands packets) others o e = paid (Hands packets) others o (rw o refl) refl refl (λ c p. p) (λ is. is) e
+put_entering (Records server gtid) others o e = paid (Records server gtid) others o (rw o refl) refl refl (λ c p. p) (λ is. is) e
 put_entering (Tells number (Passes link command payload (Some outcome) Accepts)) others o e =
     paid (Tells number (Passes link command payload (Some outcome) Accepts)) others o (rw o refl) refl refl (λ c p. absurd cc) (λ is. is) e
 put_entering (Tells number (Passes link command payload (Some outcome) Nothing)) others o e =
@@ -212,7 +214,9 @@ step_entering (pays {put = put} {others = others} o) e = put_entering put others
 step_entering {item = item} (routes o n p k l) e = still item o refl refl refl (λ is. is) e
 step_entering {item = item} (prepares o n k c) e = still item o refl refl refl (λ is. is) e
 step_entering {item = item} (plays o n k c t s) e = still item o refl refl refl (λ is. is) e
-step_entering {item = item} (sends o n p s k c t d i) e = still item o refl refl refl (λ is. is) e
+step_entering {item = item} (sends o n p s k c t d i v) e = still item o refl refl refl (λ is. is) e
+step_entering {item = item} (waits_first o n p s g f t d v) e = still item o refl refl refl (λ is. is) e
+step_entering {item = item} (probes_first o n p s g f t d v) e = still item o refl refl refl (λ is. is) e
 step_entering {item = item} (forgets o n has f t) e = still item o refl refl refl (λ is. is) e
 step_entering {item = item} (floods o n p above) e = still item o refl refl refl (λ is. is) e
 step_entering (reads o n due) e = due_entering o n due e

@@ -32,8 +32,8 @@ use Rattle.rws_commands.specs.Requests.{arguments_of, request_of}
 use Rattle.rws_commands.specs.Statements.{Statements, adding, answered_by, closing, executing, failed_if, has_serial, is_prepare, is_prepared, named_ids, piece_in, played as played_step, prepared_by, resetting, swept_if, taken, taken_for}
 use Rattle.rws_record.specs.Item.{Ending, Item, Purpose}
 use Rattle.rws_record.specs.Item.Item.{Accepted, TurnsAway, Began, ClientBytes, LinkReady, LinkBytes, ClientGone, LinkLost, Ticks, Routed, Comes, Connects, Takes, Floods, Puts, Starves}
-use Rattle.rws_record.specs.Item.Put.{Hands, Tells, Routes, Opens, LogsInto, Sends, Forgets, Drops, Closes}
-use Rattle.rws_record.specs.Item.Purpose.{Prepares, Asks, Plays}
+use Rattle.rws_record.specs.Item.Put.{Hands, Tells, Records, Routes, Opens, LogsInto, Sends, Forgets, Drops, Closes}
+use Rattle.rws_record.specs.Item.Purpose.{Prepares, Asks, Plays, Waits, Probes}
 use Rattle.rws_record.specs.Item.Tell.{Passes, Owns, Refuses}
 use Rattle.rws_record.specs.Values.{answered_in, asked_on, command_in, ends_transaction, fronted, heard_on, named_in, named_on, pending, prepares, serial_for, serials, statements, transaction}
 use Rattle.rws_laws.specs.Laws.{GaveId, IdsAreOfTheLink}
@@ -151,6 +151,8 @@ heard_held from (steps.Part payload role (Ends (Done status)) next behind) (Some
     ]
 heard_held from (steps.Part payload role (Ends (Failed code)) next behind) (Some (Plays entry)) ends named s link number id has = inr has
 heard_held from (steps.Part payload role (Ends outcome) next behind) (Some Prepares) ends named s link number id has = inr has
+heard_held from (steps.Part payload role (Ends outcome) next behind) (Some (Waits gtid seconds)) ends named s link number id has = inr has
+heard_held from (steps.Part payload role (Ends outcome) next behind) (Some (Probes gtid)) ends named s link number id has = inr has
 heard_held from (steps.Part payload role (Ends outcome) next behind) None ends named s link number id has = inr has
 heard_held from (steps.Part payload role More next behind) asked ends named s link number id has = inr has
 heard_held from (steps.Lost cause) asked ends named s link number id has = inr has
@@ -197,6 +199,7 @@ answered_held from (Some command) its serial s link number id has = by_kind (is_
 refused_held : (config : Config) (past : List Item) (told : ℕ) (error : ProxyError)
     → FromBefore (statements config past).table (statements config (Puts (Tells told (Refuses error)) ∷ past)).table
 refused_held config past told errors.NoPrimary = failed_held (prepares (pending past)) (statements config past)
+refused_held config past told (errors.PrimaryBehind wanted found) = failed_held (prepares (pending past)) (statements config past)
 refused_held config past told errors.UnknownCommand = λ link number id has. has
 refused_held config past told errors.NotSupported = λ link number id has. has
 refused_held config past told errors.UnknownStatement = λ link number id has. has
@@ -251,6 +254,7 @@ gave config (LinkLost gone ∷ past) link number id has =
 gave config (Puts (Drops gone cause) ∷ past) link number id has =
     since (gave config past link number id (without_held gone link number id (statements config past).table.links has))
 gave config (Puts (Hands packets) ∷ past) link number id has = since (gave config past link number id has)
+gave config (Puts (Records server gtid) ∷ past) link number id has = since (gave config past link number id has)
 gave config (Puts Routes ∷ past) link number id has = since (gave config past link number id has)
 gave config (Puts (Opens opened server login) ∷ past) link number id has = since (gave config past link number id has)
 gave config (Puts (LogsInto to packets) ∷ past) link number id has = since (gave config past link number id has)

@@ -7,6 +7,8 @@ use Rattle.rws_wire.specs.declared.close_reason.CloseReason.{CloseReason}
 use Rattle.rws_wire.specs.declared.drop_cause.DropCause.{DropCause}
 use Rattle.rws_wire.specs.declared.drop_cause.DropCause.TheVariants.{Kept}
 use Rattle.rws_wire.specs.Payloads.Beginning.{Whole}
+use Rattle.rws_gtid.specs.declared.Gtid.{Gtid}
+use Rattle.rws_routing.specs.declared.routing.Check.TheVariants.{Wait, Probe}
 use Rattle.rws_native.specs.declared.login.Login.{Login}
 use Rattle.rws_front.specs.declared.phase.Phase.TheVariants.{Commands}
 use Rattle.rws_reply.specs.declared.kind.Outcome.TheVariants.{Done}
@@ -22,12 +24,12 @@ use Rattle.rws_link.specs.Stepping.{Exchange, is_some_byte, opened as opening, w
 use Rattle.rws_config.specs.declared.config.Config.{Config}
 use Rattle.rws_commands.specs.declared.command.Command.{Command}
 use Rattle.rws_commands.specs.declared.proxy_error.ProxyError.{ProxyError}
-use Rattle.rws_commands.specs.declared.proxy_error.ProxyError.TheVariants.{UnknownCommand, NotSupported, UnknownStatement, BadExecute, TooManyStatements, NotInReadOnly, TooManyConnections, CommandTooLarge, NoPrimary, OutOfMemory}
+use Rattle.rws_commands.specs.declared.proxy_error.ProxyError.TheVariants.{UnknownCommand, NotSupported, UnknownStatement, BadExecute, TooManyStatements, NotInReadOnly, TooManyConnections, CommandTooLarge, NoPrimary, PrimaryBehind, OutOfMemory}
 use Rattle.rws_commands.specs.declared.judged.Judged.{Judged}
 use Rattle.rws_record.specs.Item.{Ending, Item, Purpose, Recording, Tell, Put}
 use Rattle.rws_record.specs.Item.Item.{LinkReady, Comes, Takes, Puts}
-use Rattle.rws_record.specs.Item.Purpose.{Prepares, Asks, Plays}
-use Rattle.rws_record.specs.Item.Put.{Hands, Tells, Routes, Opens, LogsInto, Sends, Forgets, Drops, Closes}
+use Rattle.rws_record.specs.Item.Purpose.{Prepares, Asks, Plays, Waits, Probes}
+use Rattle.rws_record.specs.Item.Put.{Hands, Tells, Records, Routes, Opens, LogsInto, Sends, Forgets, Drops, Closes}
 use Rattle.rws_record.specs.Item.Recording.{Nothing, Accepts, Keeps}
 use Rattle.rws_record.specs.Item.Tell.{Passes, Owns, Refuses}
 use Rattle.rws_commands.specs.declared.history.HistoryEntry.{HistoryEntry}
@@ -37,8 +39,8 @@ use Rattle.rws_class.specs.declared.class.Class.{Class}
 use Rattle.rws_class.specs.declared.class.Class.TheVariants.{Read, PrimaryRead, Write, Session, Begin, BeginReadOnly, Commit, Rollback, AutocommitOn, AutocommitOff, TrxLocal, Ddl, Refused as Forbidden, Other}
 use Rattle.rws_commands.specs.Judging.{judged}
 use Rattle.rws_commands.specs.Commands.{asked_under, class_of_command, keeps}
-use Rattle.rws_record.specs.Values.{contains, fronted, goes_on, kept_by, links, kept_on, asked_on, awaited, exchange, is_up, prepared_by, kind_of, linked, named_in, named_on, sent_all, sent_for, pending, routing, sent_on, statements, reply_number, told, told_from, is_over, unless_link, without, or_link, pinned, transaction}
-use Rattle.rws_record.specs.Rules.{after_keeping, after_loss, after_answer, farewells, follow, is_loss, owed, recording_of, situation}
+use Rattle.rws_record.specs.Values.{checked_by, checked_on, server_of, value_on, valued_by, contains, fronted, goes_on, kept_by, links, kept_on, asked_on, awaited, exchange, is_up, prepared_by, kind_of, linked, named_in, named_on, sent_all, sent_for, pending, routing, sent_on, statements, reply_number, told, told_from, is_over, unless_link, without, or_link, pinned, transaction}
+use Rattle.rws_record.specs.Rules.{after_keeping, after_loss, after_answer, commit_by, recording_commit, farewells, follow, is_loss, owed, recording_of, situation}
 use Rattle.rws_record.proofs.WantLemmas.{closes_soon}
 use Rattle.rws_laws.specs.Client.{Took, begins_with}
 use Rattle.rws_laws.specs.Client.Took.{took}
@@ -46,15 +48,16 @@ use Rattle.rws_laws.specs.Causes.{IsCaused, JustKept}
 use Rattle.rws_laws.specs.Causes.JustKept.{sends, fills, gives_up}
 use Rattle.rws_laws.proofs.CameLemmas.{left_by, no_form, sent_awaits}
 use Rattle.rws_laws.proofs.Sound.{Caused, Sent, handle, passed, AwaitedBy, WaitsBy, WaitsOn, Sound, Telling, TellsOn, not_soon, same_some}
-use Rattle.rws_laws.proofs.Sound.WaitsOn.{prepares, repeats, replies}
-use Rattle.rws_laws.proofs.Sound.Caused.{nothing, drops, leaves, closes, hands, opens, logs_on, tells}
+use Rattle.rws_laws.proofs.Sound.WaitsOn.{prepares, repeats, checks, replies}
+use Rattle.rws_laws.proofs.Sound.Caused.{nothing, drops, leaves, closes, hands, opens, logs_on, records, tells}
 use Rattle.rws_laws.proofs.Sound.ToldBy.{none_told, all}
 use Rattle.rws_laws.proofs.ListLemmas.{had_before}
 use Rattle.rws_laws.proofs.LinksLemmas.{Dropped, cut_closes, dropped, farewells_caused, others_caused}
 use Rattle.rws_laws.proofs.LinksLemmas.Dropped.{for_fault, at_end, since_kept}
-use Rattle.rws_laws.proofs.ReplyLemmas.{passes_same, still_asked, asks_on, told_part, told_without, unless_other, unsent_told, unsent_waits, told_sent, sent_there, owes_same, drop_passes, farewells_pass, keeping_passes, waits_none, without_sent, without_waits}
+use Rattle.rws_laws.proofs.ReplyLemmas.{passes_same, still_asked, asks_on, told_part, told_without, unless_other, unsent_told, unsent_waits, told_sent, sent_there, owes_same, drop_passes, farewells_pass, keeping_passes, recording_passes, waits_none, without_sent, without_waits}
 use Rattle.rws_laws.proofs.CommandLemmas.{asked_now, command_caused, judged_numbered}
-use Rattle.rws_laws.proofs.OwedLemmas.{cut, loss_caused, CameNext, said, form, grown, owes_then, reply_caused}
+use Rattle.rws_laws.proofs.CheckLemmas.{heard_goes}
+use Rattle.rws_laws.proofs.OwedLemmas.{cut, loss_caused, CameNext, said, form, grown, owes_then, reply_caused, with_commit}
 
 -- What is given out because it is owed
 
@@ -92,11 +95,15 @@ refused_goes config past number NotInReadOnly = refl
 refused_goes config past number TooManyConnections = refl
 refused_goes config past number CommandTooLarge = refl
 refused_goes config past number NoPrimary = refl
+refused_goes config past number (PrimaryBehind wanted found) = refl
 refused_goes config past number OutOfMemory = refl
 
 -- and answers it, or leaves it
+abbrev IsAnswer : ProxyError → Type 0
+IsAnswer error = (error ≡ NoPrimary) ⊎ ((wanted : ℕ) × (found : ℕ) × (error ≡ PrimaryBehind wanted found))
+
 refused_leaves : (past : List Item) (number : ℕ) (error : ProxyError)
-    → (error ≡ NoPrimary) ⊎ ((pending (Puts (Tells number (Refuses error)) ∷ past) ≡ pending past)
+    → IsAnswer error ⊎ ((pending (Puts (Tells number (Refuses error)) ∷ past) ≡ pending past)
     × ((config : Config) → statements config (Puts (Tells number (Refuses error)) ∷ past) ≡ statements config past))
 refused_leaves past number UnknownCommand = inr (refl, λ config. refl)
 refused_leaves past number NotSupported = inr (refl, λ config. refl)
@@ -106,7 +113,8 @@ refused_leaves past number TooManyStatements = inr (refl, λ config. refl)
 refused_leaves past number NotInReadOnly = inr (refl, λ config. refl)
 refused_leaves past number TooManyConnections = inr (refl, λ config. refl)
 refused_leaves past number CommandTooLarge = inr (refl, λ config. refl)
-refused_leaves past number NoPrimary = inl refl
+refused_leaves past number NoPrimary = inl (inl refl)
+refused_leaves past number (PrimaryBehind wanted found) = inl (inr (wanted, found, refl))
 refused_leaves past number OutOfMemory = inr (refl, λ config. refl)
 
 -- where a session has just been kept, the command went there, if it is still out
@@ -156,9 +164,11 @@ up_on : (said : LinkStep) (asked : Option Purpose) (up : Bool) → up ≡ true �
 up_on (steps.Part payload its (Ends (Done status)) number behind) (Some Prepares) up u = refl
 up_on _ asked up u = u
 
-pub coming_sent : (config : Config) (past : List Item) (from : ℕ) (said : LinkStep) → Sent config past → Sent config (Comes from said ∷ past)
-coming_sent config past from said sent = λ link s.
-    let there = sent link s in (there.0, there.1, there.2, by_test link (from == link) there.3, there.4)
+pub coming_sent : (config : Config) (past : List Item) (from : ℕ) (said : LinkStep) → ((at : ℕ) → sent_on past ≡ Some at → checked_on from said past ≡ None)
+    → Sent config past → Sent config (Comes from said ∷ past)
+coming_sent config past from said none sent = λ link s.
+    let there = sent link s in
+    (there.0, there.1, heard_goes config past from said None (none link s) ∙ there.2, by_test link (from == link) there.3, there.4)
   where
     by_test : (link : ℕ) (test : Bool) → is_up link past ≡ true
         → (if test then prepared_by said (asked_on link past) (is_up link past) else is_up link past) ≡ true
@@ -200,6 +210,7 @@ module _ (config : Config) (past : List Item) (sound : Sound config past) where
       → WaitsOn other e (asked_on other past) (is_up other past) None None at list owes
   end_waits number link command payload ending recording cause at list owes other e a (prepares p u) = prepares p u
   end_waits number link command payload ending recording cause at list owes other e a (repeats p) = repeats p
+  end_waits number link command payload ending recording cause at list owes other e a (checks q) = checks q
   end_waits number link command payload ending recording cause at list owes other e a (replies awaited) =
       let same : link ≡ other = same_some link other (sym cause.0.of_reply.sent ∙ awaited.sent_there) in
       let none : exchange other past ≡ None = rw same at cause.2 in
@@ -211,6 +222,7 @@ module _ (config : Config) (past : List Item) (sound : Sound config past) where
       → WaitsOn other e (asked_on other past) (is_up other past) (pending past) (sent_on past) (handle config past) (told past ++ payload ∷ []) (drop 1 (owed config past))
   part_waits number link command payload others o other e (prepares p u) = prepares p u
   part_waits number link command payload others o other e (repeats p) = repeats p
+  part_waits number link command payload others o other e (checks q) = checks q
   part_waits number link command payload others o other e (replies awaited) = replies (record {
     command = awaited.command;
     id = awaited.id;
@@ -259,10 +271,32 @@ module _ (config : Config) (past : List Item) (sound : Sound config past) where
         owes = rw o rest;
       }
 
-      by_error : (error ≡ NoPrimary) ⊎ ((pending (Puts (Tells number (Refuses error)) ∷ past) ≡ pending past)
+      lagging : (wanted found : ℕ) → IsCaused config (Tells number (Refuses (PrimaryBehind wanted found))) past
+          → owed config past ≡ Tells number (Refuses (PrimaryBehind wanted found)) ∷ others
+          → Caused config others (Puts (Tells number (Refuses (PrimaryBehind wanted found))) ∷ past)
+          → Sound config (Puts (Tells number (Refuses (PrimaryBehind wanted found))) ∷ past)
+      lagging wanted found lags o rest = record {
+        sent = λ other s. let clash : None ≡ Some other = sym lags.unsent ∙ s in absurd cc;
+        telling = λ n soon.
+            told_sent (told past) (told_from past) (sent_on past) None
+            (unsent_told lags.command lags.unsent lags.pending.waits
+            (sound.telling n (ap closes_soon o ∙ sym (ap (λ (list : List Put). closes_soon (drop 1 list)) o) ∙ soon)));
+        asks = λ command e. absurd cc;
+        waits = λ other e has a.
+            unsent_waits None (sent_on past) (handle config (Puts (Tells number (Refuses (PrimaryBehind wanted found))) ∷ past)) (told past)
+            (owed config (Puts (Tells number (Refuses (PrimaryBehind wanted found))) ∷ past)) lags.unsent (sound.waits other e has a);
+        owes = rw o rest;
+      }
+
+      by_error : IsAnswer error ⊎ ((pending (Puts (Tells number (Refuses error)) ∷ past) ≡ pending past)
           × ((config : Config) → statements config (Puts (Tells number (Refuses error)) ∷ past) ≡ statements config past))
           → Sound config (Puts (Tells number (Refuses error)) ∷ past)
-      by_error (inl is) =
+      by_error (inl (inr (wanted, found, is))) =
+          subst (λ (its : ProxyError). Sound config (Puts (Tells number (Refuses its)) ∷ past)) (sym is)
+          (lagging wanted found (subst (λ (its : ProxyError). IsCaused config (Tells number (Refuses its)) past) is cause)
+          (subst (λ (its : ProxyError). owed config past ≡ Tells number (Refuses its) ∷ others) is o)
+          (subst (λ (its : ProxyError). Caused config others (Puts (Tells number (Refuses its)) ∷ past)) is rest))
+      by_error (inl (inl is)) =
           subst (λ (its : ProxyError). Sound config (Puts (Tells number (Refuses its)) ∷ past)) (sym is)
           (answered (subst (λ (its : ProxyError). IsCaused config (Tells number (Refuses its)) past) is cause)
           (subst (λ (its : ProxyError). owed config past ≡ Tells number (Refuses its) ∷ others) is o)
@@ -365,6 +399,8 @@ module _ (config : Config) (past : List Item) (sound : Sound config past) where
   put_sound put others o (opens {link = link} {server = server} {login = login} cause) = open_sound link server login o cause
   put_sound put others o (hands {packets = packets} cause rest) =
       quiet_sound (Hands packets) others o refl refl (record { goes = refl; over = refl; pending = refl; sent = refl; told = refl; from = refl; number = refl; exchange = λ link. refl; asked = λ link. refl; up = λ link. refl; owes = refl; links = refl; names = refl }) rest
+  put_sound put others o (records {server = server} {gtid = gtid} cause rest) =
+      quiet_sound (Records server gtid) others o refl refl (record { goes = refl; over = refl; pending = refl; sent = refl; told = refl; from = refl; number = refl; exchange = λ link. refl; asked = λ link. refl; up = λ link. refl; owes = refl; links = refl; names = refl }) rest
   put_sound put others o (logs_on {link = link} {packets = packets} cause) =
       quiet_sound (LogsInto link packets) [] o refl refl (record { goes = refl; over = refl; pending = refl; sent = refl; told = refl; from = refl; number = refl; exchange = λ link. refl; asked = λ link. refl; up = λ link. refl; owes = refl; links = refl; names = refl }) nothing
 
@@ -430,6 +466,44 @@ module _ (config : Config) (past : List Item) (sound : Sound config past) where
           passes_same (owed config past) (drop 1 (owed config past)) (ap passed o ∙ sym (ap (λ (list : List Put). passed (drop 1 list)) o))
           (sound.waits other e has a)
 
+  -- A server is asked something before a read
+
+  pub waits_sound : (link : ℕ) (gtid : Gtid) (seconds : ℕ) → owed config past ≡ [] → Sound config (Puts (Sends link (Waits gtid seconds)) ∷ past)
+  waits_sound link gtid seconds o = record {
+    sent = sound.sent;
+    telling = λ n soon. sound.telling n (not_soon o);
+    asks = still_asked refl refl refl sound.asks;
+    waits = λ other e has a. by_link other e (link == other) refl has a;
+    owes = rw o nothing;
+  }
+    where
+      by_link : (other : ℕ) (e : Exchange) (same : Bool) → (link == other) ≡ same → contains other (links past) ≡ true
+          → awaited (if same then sent_all (sent_for (Waits gtid seconds)) (kind_of (Waits gtid seconds)) else linked other past) ≡ Some e
+          → WaitsOn other e (if same then Some (Waits gtid seconds) else asked_on other past) (is_up other past) (pending past) (sent_on past) (handle config past) (told past)
+          (owed config (Puts (Sends link (Waits gtid seconds)) ∷ past))
+      by_link other e true t has a = checks {check = Wait gtid} refl
+      by_link other e false t has a =
+          passes_same (owed config past) (drop 1 (owed config past)) (ap passed o ∙ sym (ap (λ (list : List Put). passed (drop 1 list)) o))
+          (sound.waits other e has a)
+
+  pub probes_sound : (link : ℕ) (gtid : Gtid) → owed config past ≡ [] → Sound config (Puts (Sends link (Probes gtid)) ∷ past)
+  probes_sound link gtid o = record {
+    sent = sound.sent;
+    telling = λ n soon. sound.telling n (not_soon o);
+    asks = still_asked refl refl refl sound.asks;
+    waits = λ other e has a. by_link other e (link == other) refl has a;
+    owes = rw o nothing;
+  }
+    where
+      by_link : (other : ℕ) (e : Exchange) (same : Bool) → (link == other) ≡ same → contains other (links past) ≡ true
+          → awaited (if same then sent_all (sent_for (Probes gtid)) (kind_of (Probes gtid)) else linked other past) ≡ Some e
+          → WaitsOn other e (if same then Some (Probes gtid) else asked_on other past) (is_up other past) (pending past) (sent_on past) (handle config past) (told past)
+          (owed config (Puts (Sends link (Probes gtid)) ∷ past))
+      by_link other e true t has a = checks {check = Probe gtid} refl
+      by_link other e false t has a =
+          passes_same (owed config past) (drop 1 (owed config past)) (ap passed o ∙ sym (ap (λ (list : List Put). passed (drop 1 list)) o))
+          (sound.waits other e has a)
+
   -- The pending command is sent
 
   module _ (link : ℕ) (command : Command) (id : Option ℕ) (o : owed config past ≡ []) (n : is_over past ≡ false) (p : pending past ≡ Some command) (s : sent_on past ≡ None) where
@@ -465,6 +539,7 @@ module _ (config : Config) (past : List Item) (sound : Sound config past) where
             (owed config (Puts (Sends link (Asks command id)) ∷ past))
         only_prepares (prepares p u) = prepares p u
         only_prepares (repeats p) = repeats p
+        only_prepares (checks q) = checks q
         only_prepares (replies awaits) = let there = awaits.sent_there in absurd cc
 
     -- the session is kept on the link, or isn't
@@ -530,6 +605,7 @@ module _ (config : Config) (past : List Item) (sound : Sound config past) where
             → WaitsOn other x (asked_on other past) (is_up other past) (pending past) (sent_on past) at (told past) owes
         only_prepares other x t (prepares p u) = prepares p u
         only_prepares other x t (repeats p) = repeats p
+        only_prepares other x t (checks q) = checks q
         only_prepares other x t (replies awaits) =
             let same : link ≡ other = same_some link other (sym next.sent ∙ awaits.sent_there) in
             let yes : (link == other) ≡ true = eq-eqb link other same in absurd cc
@@ -558,6 +634,10 @@ module _ (config : Config) (past : List Item) (sound : Sound config past) where
       abbrev said_so : Progress → LinkStep
       said_so its_far = steps.Part payload its its_far number (is_some_byte rest)
 
+      -- the commit that it names
+      abbrev recorded : List Put
+      recorded = recording_commit (server_of link past) (commit_by config.gtid_domain its payload (Some (Asks command next.id)))
+
       goes_awaited : (its_far : Progress) (other : ℕ) (x : Exchange) → link ≡ other
           → left_by its_far (with_part payload number e) ≡ Some x
           → AwaitedBy other x (asked_on link past) (pending past) (sent_on past) (handle config (Comes link (said_so its_far) ∷ past)) (told past) (answer its_far)
@@ -575,17 +655,29 @@ module _ (config : Config) (past : List Item) (sound : Sound config past) where
           }
       goes_awaited (Ends outcome) other x same g = absurd cc
 
+      -- the reply to the command is none to what goes before one
+      unasked_check : asked_on link past ≡ Some (Asks command next.id) → checked_on link its_said past ≡ None
+      unasked_check q =
+          ap (λ (a : Option Purpose). checked_by its_said a (valued_by its_said a (value_on link past))) q ∙ by_far far
+        where
+          by_far : (its_far : Progress) → checked_by (said_so its_far) (Some (Asks command next.id)) (value_on link past) ≡ None
+          by_far More = refl
+          by_far (Ends outcome) = refl
+
       pub reply_sound : Sound config (Comes link its_said ∷ past)
       reply_sound =
-          let owed_now : owed config (Comes link its_said ∷ past) ≡ answer far = rw next.asked_it refl in
+          let owed_now : owed config (Comes link its_said ∷ past) ≡ recorded ++ answer far = rw next.asked_it refl in
           record {
-            sent = coming_sent config past link its_said sound.sent;
+            sent = coming_sent config past link its_said (λ at s. unasked_check next.asked_it) sound.sent;
             telling = λ n soon. sound.telling n (not_soon o);
             asks = still_asked refl refl refl sound.asks;
             waits = subst (λ (list : List Put). WaitsBy (links past) (λ other. exchange other (Comes link its_said ∷ past)) (λ other. asked_on other past) (λ other. is_up other (Comes link its_said ∷ past)) (pending past) (sent_on past) (handle config (Comes link its_said ∷ past)) (told past) list)
                 (sym owed_now)
+                (owes_same (links past) (answer far) (recorded ++ answer far)
+                (sym (recording_passes (server_of link past) (commit_by config.gtid_domain its payload (Some (Asks command next.id))) (answer far)))
                 (then_awaited its_said (handle config (Comes link its_said ∷ past)) (answer far)
-                (λ other x same a. goes_awaited far other x same (sym (owes_then config past link e command payload rest number next its far r p) ∙ a)));
+                (λ other x same a. goes_awaited far other x same (sym (owes_then config past link e command payload rest number next its far r p) ∙ a))));
             owes = subst (λ (list : List Put). Caused config list (Comes link its_said ∷ past)) (sym owed_now)
-                (reply_caused config past link e command payload rest number next its far r p);
+                (with_commit config past link payload its far number (is_some_byte rest) next.arrived.has (Asks command next.id) next.asked_it (answer far)
+                (reply_caused config past link e command payload rest number next its far r p));
           }

@@ -15,18 +15,19 @@ use Rattle.rws_route.specs.declared.destination.Target.{Target}
 use Rattle.rws_route.specs.declared.destination.Target.TheVariants.{Primary, Replica, NoPrimary as Nowhere}
 use Rattle.rws_routing.specs.declared.routing.Routing.{Routing}
 use Rattle.rws_routing.specs.Routings.{is_at, lost, tried_by}
+use Rattle.rws_link.specs.declared.step.LinkStep.{LinkStep}
 use Rattle.rws_config.specs.declared.config.Config.{Config}
 use Rattle.rws_commands.specs.declared.command.Command.{Command}
 use Rattle.rws_commands.specs.declared.proxy_error.ProxyError.{ProxyError}
-use Rattle.rws_commands.specs.declared.proxy_error.ProxyError.TheVariants.{UnknownCommand, NotSupported, UnknownStatement, BadExecute, TooManyStatements, NotInReadOnly, TooManyConnections, CommandTooLarge, NoPrimary, OutOfMemory}
+use Rattle.rws_commands.specs.declared.proxy_error.ProxyError.TheVariants.{UnknownCommand, NotSupported, UnknownStatement, BadExecute, TooManyStatements, NotInReadOnly, TooManyConnections, CommandTooLarge, NoPrimary, PrimaryBehind, OutOfMemory}
 use Rattle.rws_record.specs.Item.{Ending, Item, Purpose, Put, Recording}
-use Rattle.rws_record.specs.Item.Item.{Accepted, TurnsAway, Began, ClientBytes, LinkReady, LinkBytes, ClientGone, LinkLost, Ticks, Routed, Puts, Starves}
-use Rattle.rws_record.specs.Item.Purpose.{Prepares, Asks, Plays}
-use Rattle.rws_record.specs.Item.Put.{Hands, Tells, Routes, Opens, LogsInto, Sends, Forgets, Drops, Closes}
+use Rattle.rws_record.specs.Item.Item.{Accepted, TurnsAway, Began, ClientBytes, LinkReady, LinkBytes, ClientGone, LinkLost, Ticks, Routed, Comes, Puts, Starves}
+use Rattle.rws_record.specs.Item.Purpose.{Prepares, Asks, Plays, Waits, Probes}
+use Rattle.rws_record.specs.Item.Put.{Hands, Tells, Records, Routes, Opens, LogsInto, Sends, Forgets, Drops, Closes}
 use Rattle.rws_record.specs.Item.Recording.{Nothing, Accepts, Keeps}
 use Rattle.rws_record.specs.Item.Tell.{Passes, Owns, Refuses}
 use Rattle.rws_commands.specs.Commands.{class_of_command, keeps}
-use Rattle.rws_record.specs.Values.{contains, first_to, kept_by, kept_on, link_to, links, login_of, routing, server_of, is_over, without, answer_to, answered_by, answered_if, class_by_pending, or_link, pinned, speaks, transaction, pending}
+use Rattle.rws_record.specs.Values.{checked_on, contains, first_to, kept_by, kept_on, link_to, links, login_of, routing, server_of, is_over, without, answer_to, answered_by, answered_if, class_by_pending, or_link, pinned, speaks, transaction, pending}
 use Rattle.rws_record.specs.Rules.{after_loss, follow, found_in, is_link, owed}
 use Rattle.rws_record.specs.Record.{IsBeginning, IsInput, IsRecord}
 use Rattle.rws_record.specs.Record.IsRecord.{begins, steps, answers, hears, starves}
@@ -34,7 +35,7 @@ use Rattle.rws_record.proofs.RecordLemmas.{contained}
 use Rattle.rws_record.proofs.OpeningLemmas.{asks_owing_nothing}
 use Rattle.rws_record.proofs.StepLemmas.{Due, Step, of_next, rests_owing_nothing}
 use Rattle.rws_record.proofs.StepLemmas.Due.{comes, connects, takes}
-use Rattle.rws_record.proofs.StepLemmas.Step.{pays, asks, prepares, forgets, plays, sends, floods, reads}
+use Rattle.rws_record.proofs.StepLemmas.Step.{pays, asks, prepares, forgets, plays, sends, waits_first, probes_first, floods, reads}
 use Rattle.rws_record.proofs.WantLemmas.{closes_behind, closes_soon}
 use Rattle.rws_laws.specs.Causes.{AreCaused, IsAt, IsCaused, IsOpening, JustKept, found_last}
 use Rattle.rws_laws.specs.Causes.IsAt.{primary, replica}
@@ -42,6 +43,7 @@ use Rattle.rws_laws.specs.Causes.JustKept.{sends as kept_now, fills, gives_up}
 use Rattle.rws_laws.proofs.AskedLemmas.{AskedNow, legal_asked}
 use Rattle.rws_laws.proofs.AskedLemmas.AskedNow.{asked_now}
 use Rattle.rws_laws.proofs.CausesLemmas.{causes}
+use Rattle.rws_laws.proofs.CheckLemmas.{heard_assigned}
 use Rattle.rws_laws.proofs.EnteringLemmas.{is_entering, legal_entering}
 use Rattle.rws_laws.proofs.LinksLemmas.{Dropped, dropped, pinned_closes}
 use Rattle.rws_laws.proofs.LinksLemmas.Dropped.{for_fault, at_end, since_kept}
@@ -104,6 +106,7 @@ still item o l k r f s n (over is) = over (n is)
 pub closes_before : (first others : List Put) → closes_soon first ≡ true → closes_soon (first ++ others) ≡ true
 closes_before [] others s = absurd cc
 closes_before (Hands packets ∷ rest) others s = closes_before rest others s
+closes_before (Records server gtid ∷ rest) others s = closes_before rest others s
 closes_before (Tells number tell ∷ rest) others s = closes_before rest others s
 closes_before (Routes ∷ rest) others s = closes_before rest others s
 closes_before (Opens link server login ∷ rest) others s = closes_before rest others s
@@ -115,7 +118,7 @@ closes_before (Closes reason ∷ rest) others s = refl
 
 -- A link is lost
 
-assigned_before : (gone link : ℕ) (r : Routing) → (lost gone r).assigned ≡ Some link → (r.assigned ≡ Some link) × ((link == gone) ≡ false)
+pub assigned_before : (gone link : ℕ) (r : Routing) → (lost gone r).assigned ≡ Some link → (r.assigned ≡ Some link) × ((link == gone) ≡ false)
 assigned_before gone link r a = by_test (is_at gone r.assigned) refl a
   where
     by_assigned : (assigned : Option ℕ) → assigned ≡ Some link → is_at gone assigned ≡ false → (link == gone) ≡ false
@@ -159,6 +162,7 @@ refused_assigned config past number NotInReadOnly = refl
 refused_assigned config past number TooManyConnections = refl
 refused_assigned config past number CommandTooLarge = refl
 refused_assigned config past number NoPrimary = refl
+refused_assigned config past number (PrimaryBehind wanted found) = refl
 refused_assigned config past number OutOfMemory = refl
 
 -- what opens no link
@@ -323,6 +327,8 @@ module _ (config : Config) (past : List Item) where
       → IsCaused config (Sends link purpose) past → Going config past → Going config (Puts (Sends link purpose) ∷ past)
   send_going link Prepares others o cause going = paid config past (Sends link Prepares) others o refl refl refl refl (λ link. refl) refl refl refl going
   send_going link (Plays entry) others o cause going = paid config past (Sends link (Plays entry)) others o refl refl refl refl (λ link. refl) refl refl refl going
+  send_going link (Waits gtid seconds) others o cause going = paid config past (Sends link (Waits gtid seconds)) others o refl refl refl refl (λ link. refl) refl refl refl going
+  send_going link (Probes gtid) others o cause going = paid config past (Sends link (Probes gtid)) others o refl refl refl refl (λ link. refl) refl refl refl going
   send_going link (Asks command id) others o cause (soon s) = soon (paid_soon config past (Sends link (Asks command id)) others o refl refl s)
   send_going link (Asks command id) others o cause (over is) = over is
   send_going link (Asks command id) others o cause (stands kept assigned) =
@@ -354,6 +360,7 @@ module _ (config : Config) (past : List Item) where
   put_going : (put : Put) (others : List Put) → owed config past ≡ put ∷ others → IsCaused config put past → Going config past
       → Going config (Puts put ∷ past)
   put_going (Hands packets) others o cause going = paid config past (Hands packets) others o refl refl refl refl (λ link. refl) refl refl refl going
+  put_going (Records server gtid) others o cause going = paid config past (Records server gtid) others o refl refl refl refl (λ link. refl) refl refl refl going
   put_going (Tells number (Passes link command payload (Some its) Keeps)) others o cause going =
       keep_going number link command payload its others o (has_it (links past) link cause.0.has) going
   put_going (Tells number (Passes link command payload (Some its) Accepts)) others o cause going =
@@ -375,9 +382,21 @@ module _ (config : Config) (past : List Item) where
 
 -- Each step
 
+-- what a link says assigns the pending command to no other
+came_going : (config : Config) (past : List Item) (from : ℕ) (said : LinkStep) → owed config past ≡ [] → Going config past
+    → Going config (Comes from said ∷ past)
+came_going config past from said o (soon s) = nothing_soon o s
+came_going config past from said o (over is) = over is
+came_going config past from said o (stands kept assigned) = stands kept (by_assigned assigned)
+  where
+    by_assigned : Assigned config past → Assigned config (Comes from said ∷ past)
+    by_assigned (has its) = has (λ link a. its link (heard_assigned (checked_on from said past) (routing config past) link a))
+    by_assigned (opens_it owes a) = absurd (let clash : [] ≡ Opens _ _ _ ∷ [] = sym o ∙ owes in cc)
+    by_assigned (nobody none) = nobody none
+
 due_going : {config : Config} {past : List Item} {item : Item} → owed config past ≡ [] → Due config past item → Going config past
     → Going config (item ∷ past)
-due_going {item = item} o (comes had a it) going = still item o refl refl refl refl (λ link. refl) (λ is. is) going
+due_going {config} {past} o (comes {link = from} {said = said} had a it) going = came_going config past from said o going
 due_going {item = item} o (connects p f c) going = still item o refl refl refl refl (λ link. refl) (λ is. is) going
 due_going o (takes p f) (stands kept assigned) = stands kept (has (λ link a. absurd cc))
 due_going o (takes p f) (soon s) = nothing_soon o s
@@ -389,11 +408,13 @@ step_going {config} {past} (pays {put = put} {others = others} o) cause going = 
 step_going (asks o n p g w) cause going = still (Puts Routes) o refl refl refl refl (λ link. refl) (λ is. is) going
 step_going {item = item} (prepares o n its f) cause going = still item o refl refl refl refl (λ link. refl) (λ is. is) going
 step_going {item = item} (plays o n its f t s) cause going = still item o refl refl refl refl (λ link. refl) (λ is. is) going
-step_going {config} {past} (sends {link = link} {command = command} {id = id} o n p s g f t d i) cause (stands kept assigned) =
+step_going {config} {past} (sends {link = link} {command = command} {id = id} o n p s g f t d i v) cause (stands kept assigned) =
     stands (sent_going config past link command id (freed true link past f).0 kept)
     (assigned_still (Puts (Sends link (Asks command id))) o refl refl refl (λ at. refl) assigned)
-step_going (sends o n p s g f t d i) cause (soon s_) = nothing_soon o s_
-step_going (sends o n p s g f t d i) cause (over is) = over is
+step_going (sends o n p s g f t d i v) cause (soon s_) = nothing_soon o s_
+step_going (sends o n p s g f t d i v) cause (over is) = over is
+step_going {item = item} (waits_first o n p s g f t d v) cause going = still item o refl refl refl refl (λ at. refl) (λ is. is) going
+step_going {item = item} (probes_first o n p s g f t d v) cause going = still item o refl refl refl refl (λ at. refl) (λ is. is) going
 step_going {item = item} (forgets o n its f t) cause going = still item o refl refl refl refl (λ link. refl) (λ is. is) going
 step_going {item = item} (floods o n p above) cause going = still item o refl refl refl refl (λ link. refl) (λ is. is) going
 step_going (reads o n due) cause going = due_going o due going

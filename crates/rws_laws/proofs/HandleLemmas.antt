@@ -30,8 +30,8 @@ use Rattle.rws_commands.specs.Requests.{arguments_of, request_of}
 use Rattle.rws_commands.specs.Statements.{Statements, adding, answered_by, closing, executing, failed_if, is_prepare, is_prepared, next_handle, piece_in, played, prepared_by, resetting, swept_if, taken, taken_for}
 use Rattle.rws_record.specs.Item.{Ending, Item, Purpose}
 use Rattle.rws_record.specs.Item.Item.{Accepted, TurnsAway, Began, ClientBytes, LinkReady, LinkBytes, ClientGone, LinkLost, Ticks, Routed, Comes, Connects, Takes, Floods, Puts, Starves}
-use Rattle.rws_record.specs.Item.Purpose.{Prepares, Asks, Plays}
-use Rattle.rws_record.specs.Item.Put.{Hands, Tells, Routes, Opens, LogsInto, Sends, Forgets, Drops, Closes}
+use Rattle.rws_record.specs.Item.Purpose.{Prepares, Asks, Plays, Waits, Probes}
+use Rattle.rws_record.specs.Item.Put.{Hands, Tells, Records, Routes, Opens, LogsInto, Sends, Forgets, Drops, Closes}
 use Rattle.rws_record.specs.Item.Tell.{Passes, Owns, Refuses}
 use Rattle.rws_record.specs.Values.{answered_in, asked_on, command_in, ends_transaction, fronted, heard_on, named_in, named_on, pending, prepares, serial_for, serials, statements, transaction}
 
@@ -229,6 +229,8 @@ heard_holds link (steps.Part payload role (Ends (Done status)) next behind) (Som
     played_holds link entry.serial entry.statement (named_in role payload named) s holds
 heard_holds link (steps.Part payload role (Ends (Failed code)) next behind) (Some (Plays entry)) ends named s holds = holds
 heard_holds link (steps.Part payload role (Ends outcome) next behind) (Some Prepares) ends named s holds = holds
+heard_holds link (steps.Part payload role (Ends outcome) next behind) (Some (Waits gtid seconds)) ends named s holds = holds
+heard_holds link (steps.Part payload role (Ends outcome) next behind) (Some (Probes gtid)) ends named s holds = holds
 heard_holds link (steps.Part payload role (Ends outcome) next behind) None ends named s holds = holds
 heard_holds link (steps.Part payload role More next behind) asked ends named s holds = holds
 heard_holds link (steps.Lost cause) asked ends named s holds = holds
@@ -260,6 +262,7 @@ answered_holds link (Some command) its serial s holds = by_kind (is_prepared com
 refused_holds : (config : Config) (past : List Item) (number : ℕ) (error : ProxyError) → Holds (statements config past)
     → Holds (statements config (Puts (Tells number (Refuses error)) ∷ past))
 refused_holds config past number errors.NoPrimary holds = failed_holds (prepares (pending past)) (statements config past) holds
+refused_holds config past number (errors.PrimaryBehind wanted found) holds = failed_holds (prepares (pending past)) (statements config past) holds
 refused_holds config past number errors.UnknownCommand holds = holds
 refused_holds config past number errors.NotSupported holds = holds
 refused_holds config past number errors.UnknownStatement holds = holds
@@ -283,6 +286,7 @@ bounded config (Puts (Tells number (Passes link command payload None recording))
 bounded config (Puts (Tells number (Owns status)) ∷ past) = bounded config past
 bounded config (Puts (Tells number (Refuses error)) ∷ past) = refused_holds config past number error (bounded config past)
 bounded config (Puts (Hands packets) ∷ past) = bounded config past
+bounded config (Puts (Records server gtid) ∷ past) = bounded config past
 bounded config (Puts Routes ∷ past) = bounded config past
 bounded config (Puts (Opens link server login) ∷ past) = bounded config past
 bounded config (Puts (LogsInto link packets) ∷ past) = bounded config past

@@ -9,7 +9,7 @@ use Rattle.rws_config.specs.declared.config.Config.{Config}
 use Rattle.rws_commands.specs.declared.command.Command.{Command}
 use Rattle.rws_record.specs.Item.{Item, Put}
 use Rattle.rws_record.specs.Item.Item.{Puts, Starves}
-use Rattle.rws_record.specs.Item.Put.{Hands, Tells, Routes, Opens, LogsInto, Sends, Forgets, Drops, Closes}
+use Rattle.rws_record.specs.Item.Put.{Hands, Tells, Records, Routes, Opens, LogsInto, Sends, Forgets, Drops, Closes}
 use Rattle.rws_record.specs.Item.Recording.{Nothing, Accepts, Keeps}
 use Rattle.rws_record.specs.Item.Tell.{Passes, Owns, Refuses}
 use Rattle.rws_record.specs.Values.{goes_on, kept_on, pending, sent_on, told_from, is_over, transaction}
@@ -18,7 +18,7 @@ use Rattle.rws_record.specs.Record.{IsRecord}
 use Rattle.rws_record.specs.Record.IsRecord.{begins, steps, answers, hears, starves}
 use Rattle.rws_record.proofs.OpeningLemmas.{asks_open, asks_owing_nothing}
 use Rattle.rws_record.proofs.StepLemmas.{Step, of_next, rests_owing_nothing}
-use Rattle.rws_record.proofs.StepLemmas.Step.{pays, asks, prepares, forgets, plays, sends, floods, reads}
+use Rattle.rws_record.proofs.StepLemmas.Step.{pays, asks, prepares, forgets, plays, sends, waits_first, probes_first, floods, reads}
 use Rattle.rws_record.proofs.WantLemmas.{closes_soon}
 use Rattle.rws_laws.specs.Servers.{Lost, lost_by}
 use Rattle.rws_laws.specs.Servers.Lost.{closed, given_up}
@@ -41,6 +41,7 @@ put_closing : {config : Config} {past : List Item} (put : Put) (others : List Pu
     → Closing config (Puts put ∷ past)
 put_closing (Closes reason) others o closing = over refl
 put_closing (Hands packets) others o (over is) = over is
+put_closing (Records server gtid) others o (over is) = over is
 put_closing (Tells number tell) others o (over is) = over is
 put_closing Routes others o (over is) = over is
 put_closing (Opens to server login) others o (over is) = over is
@@ -49,6 +50,7 @@ put_closing (LogsInto to packets) others o (over is) = over is
 put_closing (Sends to purpose) others o (over is) = over is
 put_closing (Drops gone cause) others o (over is) = over is
 put_closing {config} {past} (Hands packets) others o (soon s) = soon (paid_soon config past (Hands packets) others o refl refl s)
+put_closing {config} {past} (Records server gtid) others o (soon s) = soon (paid_soon config past (Records server gtid) others o refl refl s)
 put_closing {config} {past} (Tells number (Passes link command payload (Some outcome) Keeps)) others o (soon s) =
     soon (paid_soon config past (Tells number (Passes link command payload (Some outcome) Keeps)) others o refl refl s)
 put_closing {config} {past} (Tells number (Passes link command payload (Some outcome) Accepts)) others o (soon s) =
@@ -73,7 +75,9 @@ step_closing (pays {put = put} {others = others} o) closing = put_closing put ot
 step_closing (asks o n p g w) closing = not_closing o n closing
 step_closing (prepares o n has f) closing = not_closing o n closing
 step_closing (plays o n has f t s) closing = not_closing o n closing
-step_closing (sends o n p s g f t d i) closing = not_closing o n closing
+step_closing (sends o n p s g f t d i v) closing = not_closing o n closing
+step_closing (waits_first o n p s g f t d v) closing = not_closing o n closing
+step_closing (probes_first o n p s g f t d v) closing = not_closing o n closing
 step_closing (forgets o n has f t) closing = not_closing o n closing
 step_closing (floods o n p above) closing = not_closing o n closing
 step_closing (reads o n due) closing = not_closing o n closing

@@ -26,8 +26,8 @@ use Rattle.rws_commands.specs.Requests.{request_of}
 use Rattle.rws_commands.specs.Statements.{Statements, answered_by, closing, failed_if, is_prepare, is_prepared, played, stands, swept_if, taken, taken_for, with_table}
 use Rattle.rws_record.specs.Item.{Ending, Item, Purpose}
 use Rattle.rws_record.specs.Item.Item.{Accepted, TurnsAway, Began, ClientBytes, LinkReady, LinkBytes, ClientGone, LinkLost, Ticks, Routed, Comes, Connects, Takes, Floods, Puts, Starves}
-use Rattle.rws_record.specs.Item.Purpose.{Prepares, Asks, Plays}
-use Rattle.rws_record.specs.Item.Put.{Hands, Tells, Routes, Opens, LogsInto, Sends, Forgets, Drops, Closes}
+use Rattle.rws_record.specs.Item.Purpose.{Prepares, Asks, Plays, Waits, Probes}
+use Rattle.rws_record.specs.Item.Put.{Hands, Tells, Records, Routes, Opens, LogsInto, Sends, Forgets, Drops, Closes}
 use Rattle.rws_record.specs.Item.Recording.{Nothing, Accepts, Keeps}
 use Rattle.rws_record.specs.Item.Tell.{Passes, Owns, Refuses}
 use Rattle.rws_record.specs.Values.{answered_in, asked_on, command_in, ends_transaction, fronted, heard_on, named_in, named_on, pending, prepares, statements, transaction}
@@ -123,6 +123,8 @@ heard_shrinks link (steps.Part payload role (Ends (Done status)) next behind) (S
     played_shrinks link entry.serial entry.statement (named_in role payload named) s
 heard_shrinks link (steps.Part payload role (Ends (Failed code)) next behind) (Some (Plays entry)) ends named s = same_shrinks s.history
 heard_shrinks link (steps.Part payload role (Ends outcome) next behind) (Some Prepares) ends named s = same_shrinks s.history
+heard_shrinks link (steps.Part payload role (Ends outcome) next behind) (Some (Waits gtid seconds)) ends named s = same_shrinks s.history
+heard_shrinks link (steps.Part payload role (Ends outcome) next behind) (Some (Probes gtid)) ends named s = same_shrinks s.history
 heard_shrinks link (steps.Part payload role (Ends outcome) next behind) None ends named s = same_shrinks s.history
 heard_shrinks link (steps.Part payload role More next behind) asked ends named s = same_shrinks s.history
 heard_shrinks link (steps.Lost cause) asked ends named s = same_shrinks s.history
@@ -141,6 +143,7 @@ unrecorded_shrinks link (Some command) its s = by_kind (is_prepared command.kind
 pub refused_moves : (config : Config) (past : List Item) (number : ℕ) (error : ProxyError)
     → Shrinks (statements config past).history (statements config (Puts (Tells number (Refuses error)) ∷ past)).history
 refused_moves config past number errors.NoPrimary = failed_shrinks (prepares (pending past)) (statements config past)
+refused_moves config past number (errors.PrimaryBehind wanted found) = failed_shrinks (prepares (pending past)) (statements config past)
 refused_moves config past number errors.UnknownCommand = same_shrinks (statements config past).history
 refused_moves config past number errors.NotSupported = same_shrinks (statements config past).history
 refused_moves config past number errors.UnknownStatement = same_shrinks (statements config past).history
@@ -172,6 +175,7 @@ moves config past (Puts (Tells number (Passes link command payload None recordin
 moves config past (Puts (Tells number (Owns status))) none = same_shrinks (statements config past).history
 moves config past (Puts (Tells number (Refuses error))) none = refused_moves config past number error
 moves config past (Puts (Hands packets)) none = same_shrinks (statements config past).history
+moves config past (Puts (Records server gtid)) none = same_shrinks (statements config past).history
 moves config past (Puts Routes) none = same_shrinks (statements config past).history
 moves config past (Puts (Opens link server login)) none = same_shrinks (statements config past).history
 moves config past (Puts (LogsInto link packets)) none = same_shrinks (statements config past).history

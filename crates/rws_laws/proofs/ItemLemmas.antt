@@ -35,7 +35,7 @@ use Rattle.rws_record.specs.Record.{IsBeginning, IsInput, IsRecord}
 use Rattle.rws_record.specs.Record.IsRecord.{begins, steps, answers, hears, starves}
 use Rattle.rws_record.proofs.StepLemmas.{Due, Step, of_next}
 use Rattle.rws_record.proofs.StepLemmas.Due.{comes, connects, takes}
-use Rattle.rws_record.proofs.StepLemmas.Step.{pays, asks, prepares, forgets, plays, sends, floods, reads}
+use Rattle.rws_record.proofs.StepLemmas.Step.{pays, asks, prepares, forgets, plays, sends, waits_first, probes_first, floods, reads}
 use Rattle.rws_laws.specs.Client.{Took}
 use Rattle.rws_laws.specs.Client.Took.{took}
 use Rattle.rws_laws.proofs.Sound.{same_some}
@@ -64,7 +64,9 @@ module _ (config : Config) (past : List Item) (words : PoolWords) (loads : List 
   no_step (asks o n p g w) is = absurd cc
   no_step (prepares o n has f) is = absurd cc
   no_step (plays o n has f t s) is = absurd cc
-  no_step (sends o n p s g f t d i) is = absurd cc
+  no_step (sends o n p s g f t d i v) is = absurd cc
+  no_step (waits_first o n p s g f t d v) is = absurd cc
+  no_step (probes_first o n p s g f t d v) is = absurd cc
   no_step (forgets o n has f t) is = absurd cc
   no_step (floods o n p above) is = absurd cc
   no_step (reads o n due) is = no_due due is

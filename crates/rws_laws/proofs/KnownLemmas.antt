@@ -22,7 +22,7 @@ use Rattle.rws_commands.specs.declared.history.HistoryEntry.{HistoryEntry}
 use Rattle.rws_commands.specs.declared.history.PreparedAs.{PreparedAs}
 use Rattle.rws_commands.specs.Statements.{Statements, answered_by, has_serial, is_prepared, played, swept_if}
 use Rattle.rws_record.specs.Item.{Ending, Item, Purpose, Recording}
-use Rattle.rws_record.specs.Item.Purpose.{Prepares, Asks, Plays}
+use Rattle.rws_record.specs.Item.Purpose.{Prepares, Asks, Plays, Waits, Probes}
 use Rattle.rws_record.specs.Values.{answered_in, ends_transaction, heard_on, named_in, named_on, awaited, contains, cursor, kept_on, links, pending, statements}
 use Rattle.rws_record.specs.Record.{IsRecord}
 use Rattle.rws_laws.proofs.FollowLemmas.{Alive, Follows, In, Lasts, open_stays, same_follows, swept_follows, table_follows}
@@ -197,6 +197,8 @@ heard_follows link (steps.Part payload role (Ends (Done status)) next behind) (S
     played_follows link entry.serial entry.statement (named_in role payload named) s
 heard_follows link (steps.Part payload role (Ends (Failed code)) next behind) (Some (Plays entry)) ends named s = same_follows s s refl refl refl
 heard_follows link (steps.Part payload role (Ends outcome) next behind) (Some Prepares) ends named s = same_follows s s refl refl refl
+heard_follows link (steps.Part payload role (Ends outcome) next behind) (Some (Waits gtid seconds)) ends named s = same_follows s s refl refl refl
+heard_follows link (steps.Part payload role (Ends outcome) next behind) (Some (Probes gtid)) ends named s = same_follows s s refl refl refl
 heard_follows link (steps.Part payload role (Ends outcome) next behind) None ends named s = same_follows s s refl refl refl
 heard_follows link (steps.Part payload role More next behind) asked ends named s = same_follows s s refl refl refl
 heard_follows link (steps.Lost cause) asked ends named s = same_follows s s refl refl refl
@@ -226,6 +228,8 @@ heard_open link (steps.Part payload role (Ends (Done status)) next behind) (Some
     played_open link entry.serial entry.statement (named_in role payload named) s
 heard_open link (steps.Part payload role (Ends (Failed code)) next behind) (Some (Plays entry)) ends named s = λ number statement f c. f
 heard_open link (steps.Part payload role (Ends outcome) next behind) (Some Prepares) ends named s = λ number statement f c. f
+heard_open link (steps.Part payload role (Ends outcome) next behind) (Some (Waits gtid seconds)) ends named s = λ number statement f c. f
+heard_open link (steps.Part payload role (Ends outcome) next behind) (Some (Probes gtid)) ends named s = λ number statement f c. f
 heard_open link (steps.Part payload role (Ends outcome) next behind) None ends named s = λ number statement f c. f
 heard_open link (steps.Part payload role More next behind) asked ends named s = λ number statement f c. f
 heard_open link (steps.Lost cause) asked ends named s = λ number statement f c. f
@@ -374,6 +378,10 @@ module _ (config : Config) (past : List Item) (legal : IsRecord config past) (kn
         still_so (Failed code) c = c
     by_asked same (steps.Part payload its (Ends (Done status)) number behind) (Some Prepares) s q it covers a = covers
     by_asked same (steps.Part payload its (Ends (Failed code)) number behind) (Some Prepares) s q it covers a = covers
+    by_asked same (steps.Part payload its (Ends (Done status)) number behind) (Some (Waits gtid seconds)) s q it covers a = covers
+    by_asked same (steps.Part payload its (Ends (Failed code)) number behind) (Some (Waits gtid seconds)) s q it covers a = covers
+    by_asked same (steps.Part payload its (Ends (Done status)) number behind) (Some (Probes gtid)) s q it covers a = covers
+    by_asked same (steps.Part payload its (Ends (Failed code)) number behind) (Some (Probes gtid)) s q it covers a = covers
     by_asked same (steps.Part payload its (Ends (Done status)) number behind) None s q it covers a = covers
     by_asked same (steps.Part payload its (Ends (Failed code)) number behind) None s q it covers a = covers
     by_asked same (steps.Part payload its More number behind) asked s q it covers a = covers

@@ -11,9 +11,11 @@ pub mod LinksLemmas
 pub mod CameLemmas
 pub mod LostLemmas
 pub mod ReplyLemmas
+pub mod CheckLemmas
 pub mod RoutedLemmas
 pub mod CommandLemmas
 pub mod OwedLemmas
+pub mod CheckedLemmas
 pub mod GivenLemmas
 pub mod SoundLemmas
 pub mod WantedLemmas
@@ -37,6 +39,10 @@ pub mod PinnedLemmas
 pub mod ItemLemmas
 pub mod SettledLemmas
 pub mod WritesLemmas
+-- the laws on commits, and on what reads see
+pub mod CommitLemmas
+pub mod ReadLemmas
+pub mod OnceAskedLemmas
 -- the law on what counts for a transaction
 pub mod CountsLemmas
 -- the law on what a session that rests has answered

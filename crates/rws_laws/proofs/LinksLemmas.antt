@@ -4,7 +4,7 @@ use Rattle.std.specs.Prelude.{◌≢◌, ◌==◌, Contains, if◌then◌else◌
 use Rattle.std.proofs.lemmas.Bool.{eq-eqb, eqb-true}
 use Rattle.rws_wire.specs.declared.close_reason.CloseReason.{CloseReason}
 use Rattle.rws_wire.specs.declared.drop_cause.DropCause.{DropCause}
-use Rattle.rws_wire.specs.declared.drop_cause.DropCause.TheVariants.{BadWire, BadReply, Unasked, Greeting, Plugin, Login as LoginFails, End, Kept, SessionDiffers}
+use Rattle.rws_wire.specs.declared.drop_cause.DropCause.TheVariants.{BadWire, BadReply, Unasked, Greeting, Plugin, Login as LoginFails, End, Kept, SessionDiffers, Probe as NoAnswer}
 use Rattle.rws_config.specs.declared.config.Config.{Config}
 use Rattle.rws_record.specs.Item.{Item, Put}
 use Rattle.rws_record.specs.Item.Item.{Puts}
@@ -38,6 +38,7 @@ dropped config past link Greeting caused = for_fault refl (given_up refl) caused
 dropped config past link Plugin caused = for_fault refl (given_up refl) caused.1
 dropped config past link (LoginFails code) caused = for_fault refl (given_up refl) caused.1
 dropped config past link SessionDiffers caused = for_fault refl (given_up refl) caused.1
+dropped config past link NoAnswer caused = for_fault refl (given_up refl) caused.1
 dropped config past link End caused = at_end caused.0
 dropped config past link Kept caused = since_kept caused.0 caused.1 caused.2
 dropped config past link _ caused = absurd caused

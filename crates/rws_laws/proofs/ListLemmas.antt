@@ -4,7 +4,7 @@ use Rattle.std.specs.Prelude.{◌==◌, Contains, slice_index_or, if◌then◌el
 use Rattle.std.proofs.lemmas.Bool.{eq-eqb}
 use Rattle.rws_record.specs.Item.{Item}
 use Rattle.rws_record.specs.Item.Item.{Accepted, TurnsAway, Began, ClientBytes, LinkReady, LinkBytes, ClientGone, LinkLost, Ticks, Routed, Comes, Connects, Takes, Floods, Puts, Starves}
-use Rattle.rws_record.specs.Item.Put.{Hands, Tells, Routes, Opens, LogsInto, Sends, Forgets, Drops, Closes}
+use Rattle.rws_record.specs.Item.Put.{Hands, Tells, Records, Routes, Opens, LogsInto, Sends, Forgets, Drops, Closes}
 use Rattle.rws_record.specs.Values.{contains, links, without}
 use Rattle.rws_record.proofs.WithoutLemmas.{without_has_not, without_keeps_out}
 
@@ -164,6 +164,7 @@ distinct_links (Takes judged number ∷ past) = distinct_links past
 distinct_links (Floods bytes ∷ past) = distinct_links past
 distinct_links (Starves made number ∷ past) = distinct_links past
 distinct_links (Puts (Hands packets) ∷ past) = distinct_links past
+distinct_links (Puts (Records server gtid) ∷ past) = distinct_links past
 distinct_links (Puts (Tells number tell) ∷ past) = distinct_links past
 distinct_links (Puts Routes ∷ past) = distinct_links past
 distinct_links (Puts (Forgets link id) ∷ past) = distinct_links past

@@ -24,8 +24,8 @@ use Rattle.rws_link.specs.declared.step.LinkStep.TheVariants as steps
 use Rattle.rws_link.specs.Stepping.{LinkState, LogsIn, Rests, Awaits, IsLost, Exchange, behind_part, fed, is_new, logged_in, opened as opening, reacted, readied, read_by, replied, replied_by, settled, step, with_part}
 use Rattle.rws_record.specs.Item.{Item, Purpose, Put}
 use Rattle.rws_record.specs.Item.Item.{Accepted, TurnsAway, Began, ClientBytes, LinkReady, LinkBytes, ClientGone, LinkLost, Ticks, Routed, Comes, Connects, Takes, Floods, Puts, Starves}
-use Rattle.rws_record.specs.Item.Put.{Hands, Tells, Routes, Opens, LogsInto, Sends, Forgets, Drops, Closes}
-use Rattle.rws_record.specs.Item.Purpose.{Prepares, Asks, Plays}
+use Rattle.rws_record.specs.Item.Put.{Hands, Tells, Records, Routes, Opens, LogsInto, Sends, Forgets, Drops, Closes}
+use Rattle.rws_record.specs.Item.Purpose.{Prepares, Asks, Plays, Waits, Probes}
 use Rattle.rws_record.specs.Values.{awaited, contains, is_starved, kind_of, link_held, linked, links, sent_all, sent_for, unread, without}
 use Rattle.rws_record.specs.Rules.{drop_cause, owed}
 use Rattle.rws_record.specs.Record.{IsBeginning, IsRecord, IsInput}
@@ -34,7 +34,7 @@ use Rattle.rws_record.proofs.LinkedLemmas.{Says, after_loss_is, after_part_is}
 use Rattle.rws_record.proofs.LinkedLemmas.Says.{answers, enters, hurries, fails, breaks, part, garbled, wrong, again}
 use Rattle.rws_record.proofs.StepLemmas.{Due, Step, of_next, rests_owing_nothing}
 use Rattle.rws_record.proofs.StepLemmas.Due.{comes, connects, takes}
-use Rattle.rws_record.proofs.StepLemmas.Step.{pays, asks, prepares, forgets, plays, sends, floods, reads}
+use Rattle.rws_record.proofs.StepLemmas.Step.{pays, asks, prepares, forgets, plays, sends, waits_first, probes_first, floods, reads}
 use Rattle.rws_record.proofs.WantLemmas.{input_starved, step_starved}
 use Rattle.rws_record.proofs.WithoutLemmas.{without_has_not, without_keeps_out}
 use Rattle.rws_laws.specs.Servers.{LoginCame, LoginFailed, WasUnasked}
@@ -190,6 +190,7 @@ was_unasked link (TurnsAway told ∷ past) now = earlier (was_unasked link past 
 was_unasked link (Routed words loads next found ∷ past) now = earlier (was_unasked link past now)
 was_unasked link (Connects said ∷ past) now = earlier (was_unasked link past now)
 was_unasked link (Puts (Hands packets) ∷ past) now = earlier (was_unasked link past now)
+was_unasked link (Puts (Records server gtid) ∷ past) now = earlier (was_unasked link past now)
 was_unasked link (Puts Routes ∷ past) now = earlier (was_unasked link past now)
 was_unasked link (Puts (Forgets to id) ∷ past) now = earlier (was_unasked link past now)
 was_unasked link (Puts (LogsInto to packets) ∷ past) now = earlier (was_unasked link past now)
@@ -345,6 +346,9 @@ put_loses : (config : Config) (past : List Item) (put : Put) (others : List Put)
 put_loses config past (Hands packets) others o all = λ link cause now.
     stays config past (Hands packets) link cause (λ is. let clash : Hands packets ∷ others ≡ Drops link (drop_cause cause) ∷ [] = sym o ∙ is in cc)
     refl (all link cause now)
+put_loses config past (Records server gtid) others o all = λ link cause now.
+    stays config past (Records server gtid) link cause (λ is. let clash : Records server gtid ∷ others ≡ Drops link (drop_cause cause) ∷ [] = sym o ∙ is in cc)
+    refl (all link cause now)
 put_loses config past Routes others o all = λ link cause now.
     stays config past Routes link cause (λ is. let clash : Routes ∷ others ≡ Drops link (drop_cause cause) ∷ [] = sym o ∙ is in cc)
     refl (all link cause now)
@@ -380,8 +384,12 @@ step_loses {config} {past} (prepares {link = to} o n k c) all =
     sending_loses config past to Prepares (λ link cause now. still o (λ less. less) (all link cause now))
 step_loses {config} {past} (plays {link = to} {entry = entry} o n k c t s) all =
     sending_loses config past to (Plays entry) (λ link cause now. still o (λ less. less) (all link cause now))
-step_loses {config} {past} (sends {link = to} {command = command} {id = id} o n p s k c t d i) all =
+step_loses {config} {past} (sends {link = to} {command = command} {id = id} o n p s k c t d i v) all =
     sending_loses config past to (Asks command id) (λ link cause now. still o (λ less. less) (all link cause now))
+step_loses {config} {past} (waits_first {link = to} {gtid = gtid} o n p s g f t d v) all =
+    sending_loses config past to (Waits gtid _) (λ link cause now. still o (λ less. less) (all link cause now))
+step_loses {config} {past} (probes_first {link = to} {gtid = gtid} o n p s g f t d v) all =
+    sending_loses config past to (Probes gtid) (λ link cause now. still o (λ less. less) (all link cause now))
 step_loses (forgets o n has f t) all = λ link cause now. still o (λ less. less) (all link cause now)
 step_loses (floods o n p above) all = λ link cause now. still o (λ less. less) (all link cause now)
 step_loses (reads o n due) all = due_loses o due all

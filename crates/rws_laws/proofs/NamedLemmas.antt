@@ -29,8 +29,8 @@ use Rattle.rws_link.specs.Stepping.{LinkState, Exchange, Rests, opened as openin
 use Rattle.rws_config.specs.declared.config.Config.{Config}
 use Rattle.rws_record.specs.Item.{Item, Purpose, Put}
 use Rattle.rws_record.specs.Item.Item.{Accepted, TurnsAway, Began, ClientBytes, LinkReady, LinkBytes, ClientGone, LinkLost, Ticks, Comes, Puts}
-use Rattle.rws_record.specs.Item.Purpose.{Prepares, Asks, Plays}
-use Rattle.rws_record.specs.Item.Put.{Hands, Tells, Routes, Opens, LogsInto, Sends, Forgets, Drops, Closes}
+use Rattle.rws_record.specs.Item.Purpose.{Prepares, Asks, Plays, Waits, Probes}
+use Rattle.rws_record.specs.Item.Put.{Hands, Tells, Records, Routes, Opens, LogsInto, Sends, Forgets, Drops, Closes}
 use Rattle.rws_record.specs.Values.{awaited, exchange, kind_of, linked, named_by, named_in, named_on, prepared_in, sent_all, sent_for}
 use Rattle.rws_record.specs.Record.{IsBeginning, IsRecord, IsInput}
 use Rattle.rws_record.specs.Record.IsRecord.{begins, steps as goes, answers as answered, hears, starves}
@@ -38,7 +38,7 @@ use Rattle.rws_record.proofs.LinkedLemmas.{Says, after_part_is}
 use Rattle.rws_record.proofs.LinkedLemmas.Says.{answers, enters, hurries, fails, breaks, part, garbled, wrong, again}
 use Rattle.rws_record.proofs.StepLemmas.{Due, Step, of_next}
 use Rattle.rws_record.proofs.StepLemmas.Due.{comes, connects, takes}
-use Rattle.rws_record.proofs.StepLemmas.Step.{pays, asks, prepares, forgets, plays, sends, floods, reads}
+use Rattle.rws_record.proofs.StepLemmas.Step.{pays, asks, prepares, forgets, plays, sends, waits_first, probes_first, floods, reads}
 use Rattle.rws_laws.proofs.CameLemmas.{after_answer_is, after_entering_is, bytes_keep, left_by, loss_leaves, part_leaves, ready_keeps, sent_awaits}
 
 -- What a payload of such a reply tells
@@ -170,6 +170,7 @@ opening_named past opened server login named = λ link e a k s. by_test link e (
 
 put_named : (past : List Item) (put : Put) → Named past → Named (Puts put ∷ past)
 put_named past (Hands packets) named = named
+put_named past (Records server gtid) named = named
 put_named past (Tells number tell) named = named
 put_named past Routes named = named
 put_named past (Opens opened server login) named = opening_named past opened server login named
@@ -190,7 +191,9 @@ step_named (asks o n p k l) named = named
 step_named {past = past} (prepares {link = to} o n has f) named = sending_named past to Prepares named
 step_named (forgets o n has f t) named = named
 step_named {past = past} (plays {link = to} {entry = entry} o n has f t s) named = sending_named past to (Plays entry) named
-step_named {past = past} (sends {link = to} {command = command} {id = id} o n p s g f t d i) named = sending_named past to (Asks command id) named
+step_named {past = past} (sends {link = to} {command = command} {id = id} o n p s g f t d i v) named = sending_named past to (Asks command id) named
+step_named {past = past} (waits_first {link = to} {gtid = gtid} o n p s g f t d v) named = sending_named past to (Waits gtid _) named
+step_named {past = past} (probes_first {link = to} {gtid = gtid} o n p s g f t d v) named = sending_named past to (Probes gtid) named
 step_named (floods o n p above) named = named
 step_named (reads o n due) named = due_named due named
 

@@ -4,7 +4,7 @@ use Rattle.std.specs.Prelude.{◌≢◌, ◌==◌, Contains, if◌then◌else◌
 use Rattle.rws_config.specs.declared.config.Config.{Config}
 use Rattle.rws_record.specs.Item.{Item}
 use Rattle.rws_record.specs.Item.Item.{Accepted, TurnsAway, Began, ClientBytes, LinkReady, LinkBytes, ClientGone, LinkLost, Ticks, Routed, Comes, Connects, Takes, Floods, Puts, Starves}
-use Rattle.rws_record.specs.Item.Put.{Hands, Tells, Routes, Opens, LogsInto, Sends, Forgets, Drops, Closes}
+use Rattle.rws_record.specs.Item.Put.{Hands, Tells, Records, Routes, Opens, LogsInto, Sends, Forgets, Drops, Closes}
 use Rattle.rws_record.specs.Values.{contains, links, server_of, without}
 use Rattle.rws_record.proofs.RecordLemmas.{contained}
 use Rattle.rws_record.proofs.WithoutLemmas.{without_has_less}
@@ -72,6 +72,7 @@ once config (Takes it number ∷ past) caused = once config past caused.2
 once config (Floods bytes ∷ past) caused = once config past caused.2
 once config (Starves made number ∷ past) caused = once config past caused.3
 once config (Puts (Hands packets) ∷ past) caused = once config past caused.1
+once config (Puts (Records server gtid) ∷ past) caused = once config past caused.1
 once config (Puts (Tells number tell) ∷ past) caused = once config past caused.1
 once config (Puts Routes ∷ past) caused = once config past caused.1
 once config (Puts (Forgets link id) ∷ past) caused = once config past caused.1

@@ -6,6 +6,8 @@ use Rattle.rws_wire.specs.declared.close_reason.CloseReason.{CloseReason}
 use Rattle.rws_wire.specs.declared.drop_cause.DropCause.TheVariants.{BadReply, Unasked, Login as LoginFails, Kept, SessionDiffers}
 use Rattle.rws_wire.specs.Payloads.{first_payload}
 use Rattle.rws_wire.specs.Payloads.Beginning.{Whole}
+use Rattle.rws_gtid.specs.declared.Gtid.{Gtid}
+use Rattle.rws_causal.specs.Commits.{commit_in}
 use Rattle.rws_reply.specs.declared.kind.Kind.{Kind}
 use Rattle.rws_reply.specs.declared.kind.Kind.TheVariants.{Query as QueryReply}
 use Rattle.rws_reply.specs.declared.kind.Outcome.{Outcome}
@@ -16,6 +18,7 @@ use Rattle.rws_reply.specs.declared.kind.Progress.{Progress}
 use Rattle.rws_reply.specs.declared.kind.Progress.TheVariants.{More, Whole as Ends}
 use Rattle.rws_reply.specs.Replies.{Payload, IsReply, Begins}
 use Rattle.rws_reply.specs.declared.role.Role.{Role}
+use Rattle.rws_reply.specs.declared.role.Role.TheVariants as roles
 use Rattle.rws_reply.specs.Tracking.{progress, role}
 use Rattle.rws_reply.specs.ClientForm.{client_reply, in_role}
 use Rattle.rws_reply.proofs.ProgressLemmas.{progress_is_exact}
@@ -30,18 +33,18 @@ use Rattle.rws_commands.specs.declared.command.Command.{Command}
 use Rattle.rws_msgs.specs.declared.prepare_ok.PrepareOk.{PrepareOk}
 use Rattle.rws_commands.specs.declared.history.HistoryEntry.{HistoryEntry}
 use Rattle.rws_commands.specs.declared.history.PreparedAs.{PreparedAs}
-use Rattle.rws_record.specs.Item.{Ending, Item, Recording, Tell}
+use Rattle.rws_record.specs.Item.{Ending, Item, Purpose, Put, Recording, Tell}
 use Rattle.rws_record.specs.Item.Item.{TurnsAway, Comes, Connects, Puts}
-use Rattle.rws_record.specs.Item.Purpose.{Prepares, Asks, Plays}
+use Rattle.rws_record.specs.Item.Purpose.{Prepares, Asks, Plays, Waits, Probes}
 use Rattle.rws_record.specs.Item.Recording.{Nothing, Accepts, Keeps}
-use Rattle.rws_record.specs.Item.Put.{Hands, Tells, Drops, Closes}
+use Rattle.rws_record.specs.Item.Put.{Hands, Tells, Records, Drops, Closes}
 use Rattle.rws_record.specs.Item.Tell.{Passes}
 use Rattle.rws_class.specs.declared.class.Class.{Class}
 use Rattle.rws_class.specs.declared.class.Class.TheVariants.{Read, PrimaryRead, Write, Session, Begin, BeginReadOnly, Commit, Rollback, AutocommitOn, AutocommitOff, TrxLocal, Ddl, Refused as Forbidden, Other}
 use Rattle.rws_commands.specs.Statements.{Statements, is_full, is_otherwise, swept_if}
 use Rattle.rws_commands.specs.Commands.{class_of_command, is_session}
-use Rattle.rws_record.specs.Values.{class_by_pending, fronted, goes_on, links, kept_on, asked_on, awaited, exchange, linked, named_in, named_on, link_held, pending, sent_on, statements, ends_transaction, reply_number, told, told_from, is_over, without, transaction, transaction_bytes}
-use Rattle.rws_record.specs.Rules.{again_by, goes_if, is_link, after_loss, after_loss_by, loss_by, after_connecting, after_flood, after_keeping, after_played, after_preparing, after_turning_away, after_answer, form_of, recording_by, recording_of, differing, unasked, ending, is_full_behind, is_read_only, is_replay_off, is_replayable}
+use Rattle.rws_record.specs.Values.{class_by_pending, fronted, goes_on, links, kept_on, asked_on, awaited, exchange, linked, named_in, named_on, link_held, pending, sent_on, statements, ends_transaction, reply_number, server_of, told, told_from, is_over, without, transaction, transaction_bytes}
+use Rattle.rws_record.specs.Rules.{again_by, goes_if, is_link, after_loss, after_loss_by, loss_by, after_connecting, after_flood, after_keeping, after_played, commit_by, recording_commit, after_preparing, after_turning_away, after_answer, form_of, recording_by, recording_of, differing, unasked, ending, is_full_behind, is_read_only, is_replay_off, is_replayable}
 use Rattle.rws_record.proofs.LinkedLemmas.{after_part_is}
 use Rattle.rws_record.proofs.RecordLemmas.{contained}
 use Rattle.rws_laws.specs.Client.{Flooded, IsPending, IsSaid, Refused}
@@ -51,10 +54,11 @@ use Rattle.rws_laws.specs.Client.WasRefused.{refused}
 use Rattle.rws_laws.specs.Client.Asked.{before}
 use Rattle.rws_laws.specs.Servers.{IsNoReply, Lost, came_on}
 use Rattle.rws_laws.specs.Servers.IsWrong.{wrong}
+use Rattle.rws_laws.specs.Servers.NamesCommit.{names}
 use Rattle.rws_laws.specs.Servers.{IsOther}
 use Rattle.rws_laws.specs.Servers.IsOther.{fails, counts}
 use Rattle.rws_laws.specs.Servers.WasUnasked.{behind_reply, earlier}
-use Rattle.rws_laws.specs.Causes.{HasSet, IsCut, IsEnded, IsHidden, IsOfReply, IsPassed, IsRecorded, SetsSession}
+use Rattle.rws_laws.specs.Causes.{HasSet, IsCaused, IsCut, IsEnded, IsHidden, IsOfReply, IsPassed, IsRecorded, SetsSession}
 use Rattle.rws_laws.specs.Causes.JustKept.{fills}
 use Rattle.rws_laws.specs.Causes.SetsSession.{sets, sets_autocommit, unsets_autocommit}
 use Rattle.rws_laws.proofs.CameLemmas.{left_by, part_leaves}
@@ -62,7 +66,7 @@ use Rattle.rws_laws.proofs.LinksLemmas.{StaysCaused, others_caused}
 use Rattle.rws_laws.proofs.TransactionLemmas.{lasting, not_again, only_reads}
 use Rattle.rws_laws.proofs.ListLemmas.{has_it, other_stays}
 use Rattle.rws_laws.proofs.Sound.{Caused, Sent, handle, ToldBy, Telling, IsAsked, Asking, is_that, is_not}
-use Rattle.rws_laws.proofs.Sound.Caused.{nothing, drops, leaves as leaves_behind, closes, hands, tells}
+use Rattle.rws_laws.proofs.Sound.Caused.{nothing, drops, leaves as leaves_behind, closes, hands, tells, records}
 use Rattle.rws_laws.proofs.Sound.ToldBy.{none_told, a_part, all}
 
 -- A session closes when its link is lost
@@ -203,7 +207,7 @@ module _ (past : List Item) (link : ℕ) (e : Exchange) (payload rest : Payload)
   came_before = rw itself (sym arrived.came)
 
   -- this payload is no reply to what was asked
-  no_reply_so : (kind : Kind) → e.kind ≡ kind → progress e.kind e.sofar payload ≡ None
+  pub no_reply_so : (kind : Kind) → e.kind ≡ kind → progress e.kind e.sofar payload ≡ None
       → IsNoReply kind link payload (Comes link (steps.Lost losses.BadReply) ∷ past)
   no_reply_so kind k p =
       let bad = (progress_is_exact e.kind e.sofar payload).bad p in
@@ -216,7 +220,7 @@ module _ (past : List Item) (link : ℕ) (e : Exchange) (payload rest : Payload)
 
   module _ (its : Role) (far : Progress) (r : role e.kind e.sofar payload ≡ Some its) (p : progress e.kind e.sofar payload ≡ Some far) where
     -- what came with it
-    came_with : came_on link (Comes link (steps.Part payload its far number (is_some_byte rest)) ∷ past) ≡ e.sofar ++ payload ∷ []
+    pub came_with : came_on link (Comes link (steps.Part payload its far number (is_some_byte rest)) ∷ past) ≡ e.sofar ++ payload ∷ []
     came_with = rw itself (ap (λ (list : List Payload). list ++ payload ∷ []) (sym arrived.came))
 
     -- what the link owes then
@@ -229,7 +233,7 @@ module _ (past : List Item) (link : ℕ) (e : Exchange) (payload rest : Payload)
         )
 
 -- a byte behind a whole reply in the same piece costs the link
-byte_behind : (config : Config) (past : List Item) (link : ℕ) (e : Exchange) (payload rest : Payload) (number : ℕ) → Arrived past link e payload rest number
+pub byte_behind : (config : Config) (past : List Item) (link : ℕ) (e : Exchange) (payload rest : Payload) (number : ℕ) → Arrived past link e payload rest number
     → (its : Role) (outcome : Outcome) → role e.kind e.sofar payload ≡ Some its → progress e.kind e.sofar payload ≡ Some (Ends outcome)
     → Caused config (unasked link (is_some_byte rest)) (Comes link (steps.Part payload its (Ends outcome) number (is_some_byte rest)) ∷ past)
 byte_behind config past link e payload rest number arrived its outcome r p =
@@ -250,11 +254,76 @@ byte_behind config past link e payload rest number arrived its outcome r p =
         )
 
 -- and it does so once the end was told, and when other links were given up since
-unasked_told : (config : Config) (now : List Item) (link : ℕ) (behind : Bool) (number : ℕ) (tell : Tell) → Caused config (unasked link behind) now
+pub unasked_told : (config : Config) (now : List Item) (link : ℕ) (behind : Bool) (number : ℕ) (tell : Tell) → Caused config (unasked link behind) now
     → Caused config (unasked link behind) (Puts (Tells number tell) ∷ now)
 unasked_told config now link false number tell caused = nothing
 unasked_told config now link true number tell (drops n cause) = drops n ((earlier cause.0.0, cause.0.1), cause.1)
 unasked_told config now link true number tell (leaves_behind lossless cause rest) = absurd cc
+
+-- and once a commit was told of
+pub unasked_recorded : (config : Config) (now : List Item) (link : ℕ) (behind : Bool) (server : ℕ) (gtid : Gtid) → Caused config (unasked link behind) now
+    → Caused config (unasked link behind) (Puts (Records server gtid) ∷ now)
+unasked_recorded config now link false server gtid caused = nothing
+unasked_recorded config now link true server gtid (drops n cause) = drops n ((earlier cause.0.0, cause.0.1), cause.1)
+unasked_recorded config now link true server gtid (leaves_behind lossless cause rest) = absurd cc
+
+-- What is owed for a payload has its cause, and has it also where the commit that the payload names was told of before.
+pub record StillCaused (config : Config) (list : List Put) (now : List Item) : Type 0 where
+  pub stands : Caused config list now
+  pub later : (server : ℕ) (gtid : Gtid) → Caused config list (Puts (Records server gtid) ∷ now)
+
+pub still_nothing : {config : Config} {now : List Item} → StillCaused config [] now
+still_nothing = record { stands = nothing; later = λ server gtid. nothing }
+
+pub still_unasked : {config : Config} {now : List Item} (link : ℕ) (behind : Bool) → Caused config (unasked link behind) now
+    → StillCaused config (unasked link behind) now
+still_unasked {config} {now} link behind caused =
+    record { stands = caused; later = λ server gtid. unasked_recorded config now link behind server gtid caused }
+
+-- what names a commit is an OK in a reply to something else than the preamble
+module _ (config : Config) (past : List Item) (link : ℕ) (payload : Payload) (its : Role) (far : Progress) (number : ℕ) (behind : Bool)
+    (has : Contains (links past) link) where
+  names_it : (purpose : Purpose) → asked_on link past ≡ Some purpose → (gtid : Gtid) → commit_by config.gtid_domain its payload (Some purpose) ≡ Some gtid
+      → IsCaused config (Records (server_of link past) gtid) (Comes link (steps.Part payload its far number behind) ∷ past)
+  names_it purpose asked gtid e = by_role its refl purpose asked e
+    where
+      no_commit : {A : Type 0} → None ≡ Some gtid → A
+      no_commit clash = absurd cc
+
+      named : (purpose : Purpose) → asked_on link past ≡ Some purpose → purpose ≢ Prepares → commit_in config.gtid_domain payload ≡ Some gtid
+          → IsCaused config (Records (server_of link past) gtid) (Comes link (steps.Part payload roles.Ok far number behind) ∷ past)
+      named purpose asked apart e = names has refl asked apart e
+
+      by_purpose : (purpose : Purpose) → asked_on link past ≡ Some purpose → commit_by config.gtid_domain roles.Ok payload (Some purpose) ≡ Some gtid
+          → IsCaused config (Records (server_of link past) gtid) (Comes link (steps.Part payload roles.Ok far number behind) ∷ past)
+      by_purpose Prepares asked e = absurd cc
+      by_purpose (Asks command id) asked e = named (Asks command id) asked (λ same. cc) e
+      by_purpose (Plays entry) asked e = named (Plays entry) asked (λ same. cc) e
+      by_purpose (Waits gtid seconds) asked e = named (Waits gtid seconds) asked (λ same. cc) e
+      by_purpose (Probes gtid) asked e = named (Probes gtid) asked (λ same. cc) e
+
+      by_role : (role : Role) → its ≡ role → (purpose : Purpose) → asked_on link past ≡ Some purpose → commit_by config.gtid_domain its payload (Some purpose) ≡ Some gtid
+          → IsCaused config (Records (server_of link past) gtid) (Comes link (steps.Part payload its far number behind) ∷ past)
+      by_role roles.Ok is purpose asked e =
+          subst (λ (role : Role). IsCaused config (Records (server_of link past) gtid) (Comes link (steps.Part payload role far number behind) ∷ past)) (sym is)
+          (by_purpose purpose asked (ap (λ (role : Role). commit_by config.gtid_domain role payload (Some purpose)) (sym is) ∙ e))
+      by_role roles.Err is purpose asked e = no_commit (ap (λ (role : Role). commit_by config.gtid_domain role payload (Some purpose)) (sym is) ∙ e)
+      by_role roles.Prepared is purpose asked e = no_commit (ap (λ (role : Role). commit_by config.gtid_domain role payload (Some purpose)) (sym is) ∙ e)
+      by_role roles.Count is purpose asked e = no_commit (ap (λ (role : Role). commit_by config.gtid_domain role payload (Some purpose)) (sym is) ∙ e)
+      by_role roles.Definition is purpose asked e = no_commit (ap (λ (role : Role). commit_by config.gtid_domain role payload (Some purpose)) (sym is) ∙ e)
+      by_role roles.Eof is purpose asked e = no_commit (ap (λ (role : Role). commit_by config.gtid_domain role payload (Some purpose)) (sym is) ∙ e)
+      by_role roles.Row is purpose asked e = no_commit (ap (λ (role : Role). commit_by config.gtid_domain role payload (Some purpose)) (sym is) ∙ e)
+
+  pub with_commit : (purpose : Purpose) → asked_on link past ≡ Some purpose → (list : List Put)
+      → StillCaused config list (Comes link (steps.Part payload its far number behind) ∷ past)
+      → Caused config (recording_commit (server_of link past) (commit_by config.gtid_domain its payload (Some purpose)) ++ list)
+      (Comes link (steps.Part payload its far number behind) ∷ past)
+  with_commit purpose asked list still = by_commit (commit_by config.gtid_domain its payload (Some purpose)) refl
+    where
+      by_commit : (commit : Option Gtid) → commit_by config.gtid_domain its payload (Some purpose) ≡ commit
+          → Caused config (recording_commit (server_of link past) commit ++ list) (Comes link (steps.Part payload its far number behind) ∷ past)
+      by_commit None e = still.stands
+      by_commit (Some gtid) e = records (names_it purpose asked gtid e) (still.later (server_of link past) gtid)
 
 unasked_stays : (config : Config) (now : List Item) (link : ℕ) (behind : Bool) → Caused config (unasked link behind) now
     → StaysCaused config link (unasked link behind) now
@@ -281,18 +350,21 @@ module _ (config : Config) (past : List Item) (link : ℕ) (e : Exchange) (paylo
       (inr (inl (payload, asked, no_reply_so past link e payload rest number arrived QueryReply kind p)), arrived.has)
 
   pub preparing_caused : (its : Role) (far : Progress) → role e.kind e.sofar payload ≡ Some its → progress e.kind e.sofar payload ≡ Some far
-      → Caused config (after_preparing link far (is_some_byte rest)) (Comes link (steps.Part payload its far number (is_some_byte rest)) ∷ past)
-  preparing_caused its More r p = nothing
+      → StillCaused config (after_preparing link far (is_some_byte rest)) (Comes link (steps.Part payload its far number (is_some_byte rest)) ∷ past)
+  preparing_caused its More r p = still_nothing
   preparing_caused its (Ends (Failed code)) r p =
       let reply = ((progress_is_exact e.kind e.sofar payload).whole (Failed code)).0 p in
       let reply : IsReply QueryReply (e.sofar ++ payload ∷ []) (Failed code) = rw kind at reply in
       let came = came_with past link e payload rest number arrived its (Ends (Failed code)) r p in
-      drops {link = link} {cause = LoginFails code} arrived.goes (
-        inr (record { came = refl; asked = asked; failed = subst (λ (list : List Payload). IsReply QueryReply list (Failed code)) (sym came) reply }),
-        arrived.has,
-      )
+      let failed : IsReply QueryReply (came_on link (Comes link (steps.Part payload its (Ends (Failed code)) number (is_some_byte rest)) ∷ past)) (Failed code) =
+      subst (λ (list : List Payload). IsReply QueryReply list (Failed code)) (sym came) reply in
+      record {
+        stands = drops {link = link} {cause = LoginFails code} arrived.goes (inr (record { came = refl; asked = asked; failed = failed }), arrived.has);
+        later = λ server gtid.
+            drops {link = link} {cause = LoginFails code} arrived.goes (inr (record { came = refl; asked = asked; failed = failed }), arrived.has);
+      }
   preparing_caused its (Ends (Done status)) r p =
-      byte_behind config past link e payload rest number arrived its (Done status) r p
+      still_unasked link (is_some_byte rest) (byte_behind config past link e payload rest number arrived its (Done status) r p)
 
 -- The reply to an entry of the history
 
@@ -318,10 +390,14 @@ module _ (config : Config) (past : List Item) (link : ℕ) (e : Exchange) (paylo
         subst (λ (list : List Payload). IsReply entry.kind list outcome) (sym came) reply
 
     differs : IsOther entry (came_on link (Comes link whole_said ∷ past)) (named_on link (Comes link whole_said ∷ past))
-        → Caused config (Drops link SessionDiffers ∷ []) (Comes link whole_said ∷ past)
-    differs other =
-        drops {link = link} {cause = SessionDiffers} arrived.goes
-        (record { came = refl; entry = entry; asked = asked; other = other }, arrived.has)
+        → StillCaused config (Drops link SessionDiffers ∷ []) (Comes link whole_said ∷ past)
+    differs other = record {
+      stands = drops {link = link} {cause = SessionDiffers} arrived.goes
+          (record { came = refl; entry = entry; asked = asked; other = other }, arrived.has);
+      later = λ server gtid.
+          drops {link = link} {cause = SessionDiffers} arrived.goes
+          (record { came = refl; entry = entry; asked = asked; other = other }, arrived.has);
+    }
 
   other_counts : (statement : Option PreparedAs) (named : Option PrepareOk) → is_otherwise statement named ≡ true
       → (how : PreparedAs) × (ok : PrepareOk) × (statement ≡ Some how) × (named ≡ Some ok) × (¬ ((how.columns ≡ ok.columns) × (how.parameters ≡ ok.parameters)))
@@ -340,8 +416,8 @@ module _ (config : Config) (past : List Item) (link : ℕ) (e : Exchange) (paylo
 
   counted_caused : (its : Role) (status : ℕ) (otherwise : Bool) → is_otherwise entry.statement (named_in its payload (named_on link past)) ≡ otherwise
       → role e.kind e.sofar payload ≡ Some its → progress e.kind e.sofar payload ≡ Some (Ends (Done status))
-      → Caused config (differing link otherwise (is_some_byte rest)) (Comes link (steps.Part payload its (Ends (Done status)) number (is_some_byte rest)) ∷ past)
-  counted_caused its status false o r p = byte_behind config past link e payload rest number arrived its (Done status) r p
+      → StillCaused config (differing link otherwise (is_some_byte rest)) (Comes link (steps.Part payload its (Ends (Done status)) number (is_some_byte rest)) ∷ past)
+  counted_caused its status false o r p = still_unasked link (is_some_byte rest) (byte_behind config past link e payload rest number arrived its (Done status) r p)
   counted_caused its status true o r p =
       let same : named_on link (Comes link (steps.Part payload its (Ends (Done status)) number (is_some_byte rest)) ∷ past) ≡ named_in its payload (named_on link past) =
       rw (itself past link e payload rest number arrived) refl in
@@ -349,13 +425,29 @@ module _ (config : Config) (past : List Item) (link : ℕ) (e : Exchange) (paylo
       differs its (Done status) r p (counts found.0 found.1 status found.2 (same ∙ found.3) (played_so its (Done status) r p) found.4)
 
   pub playing_caused : (its : Role) (far : Progress) → role e.kind e.sofar payload ≡ Some its → progress e.kind e.sofar payload ≡ Some far
-      → Caused config (after_played link entry (named_in its payload (named_on link past)) far (is_some_byte rest))
+      → StillCaused config (after_played link entry (named_in its payload (named_on link past)) far (is_some_byte rest))
       (Comes link (steps.Part payload its far number (is_some_byte rest)) ∷ past)
-  playing_caused its More r p = nothing
+  playing_caused its More r p = still_nothing
   playing_caused its (Ends (Failed code)) r p =
       differs its (Failed code) r p (fails code (played_so its (Failed code) r p))
   playing_caused its (Ends (Done status)) r p =
       counted_caused its status (is_otherwise entry.statement (named_in its payload (named_on link past))) refl r p
+
+-- a payload that is passed on is passed on once its commit was told of
+passed_later : {config : Config} {number link : ℕ} {command : Command} {payload : Payload} {from : ℕ} {said : LinkStep} {past : List Item}
+    → IsPassed config number link command payload (Comes from said ∷ past) → (server : ℕ) (gtid : Gtid)
+    → IsPassed config number link command payload (Puts (Records server gtid) ∷ Comes from said ∷ past)
+passed_later its server gtid = record {
+  came = its.came;
+  has = its.has;
+  of_reply = record {
+    pending = record { waits = its.of_reply.pending.waits; asked = before its.of_reply.pending.asked };
+    sent = its.of_reply.sent;
+    one_link = its.of_reply.one_link;
+  };
+  in_form = its.in_form;
+  counts = its.counts;
+}
 
 -- What the end of a reply means for the history
 
@@ -509,36 +601,65 @@ module _ (config : Config) (past : List Item) (link : ℕ) (e : Exchange) (comma
     a_byte : Caused config (unasked link (is_some_byte rest)) (Comes link whole ∷ past)
     a_byte = byte_behind config past link e payload rest number next.arrived its outcome r p
 
-    -- the session is kept on the link, and gives up the others
-    keeping_caused : HasSet command outcome (Comes link whole ∷ past) × (config.history_limit ≤ length (statements config (Comes link whole ∷ past)).history) → Caused config
-        (after_keeping true link (kept_on past) (links past) ++ unasked link (is_some_byte rest))
-        (Puts (Tells (reply_number past) (Passes link command its_form (Some its_ending) Keeps)) ∷ Comes link whole ∷ past)
-    keeping_caused its_full =
-        subst (λ (kept : Option ℕ). Caused config (after_keeping true link kept (links past) ++ unasked link (is_some_byte rest))
-        (Puts (Tells (reply_number past) (Passes link command its_form (Some its_ending) Keeps)) ∷ Comes link whole ∷ past)) (sym its_full.0.free)
-        (others_caused config past (Puts (Tells (reply_number past) (Passes link command its_form (Some its_ending) Keeps)) ∷ Comes link whole ∷ past) link
-        (unasked link (is_some_byte rest)) refl (fills its_full)
-        (unasked_stays config (Puts (Tells (reply_number past) (Passes link command its_form (Some its_ending) Keeps)) ∷ Comes link whole ∷ past) link (is_some_byte rest)
-        (unasked_told config (Comes link whole ∷ past) link (is_some_byte rest) (reply_number past) (Passes link command its_form (Some its_ending) Keeps) a_byte)))
+    -- the end is told now, or once the commit was told of
+    module _ (now : List Item) (l : links now ≡ links past) (passed_now : IsPassed config (reply_number past) link command its_form now)
+        (ends_now : IsReply command.kind (came_on link now) outcome) (owes_now : exchange link now ≡ None) (named_then : its_ending.named ≡ named_on link now)
+        (byte_now : Caused config (unasked link (is_some_byte rest)) now) where
+      -- the session is kept on the link, and gives up the others
+      keeping_caused : HasSet command outcome now × (config.history_limit ≤ length (statements config now).history) → kept_on now ≡ kept_on past
+          → Caused config (after_keeping true link (kept_on now) (links now) ++ unasked link (is_some_byte rest))
+          (Puts (Tells (reply_number past) (Passes link command its_form (Some its_ending) Keeps)) ∷ now)
+      keeping_caused its_full k =
+          subst (λ (kept : Option ℕ). Caused config (after_keeping true link kept (links now) ++ unasked link (is_some_byte rest))
+          (Puts (Tells (reply_number past) (Passes link command its_form (Some its_ending) Keeps)) ∷ now)) (sym its_full.0.free)
+          (others_caused config now (Puts (Tells (reply_number past) (Passes link command its_form (Some its_ending) Keeps)) ∷ now) link
+          (unasked link (is_some_byte rest)) refl (fills its_full)
+          (unasked_stays config (Puts (Tells (reply_number past) (Passes link command its_form (Some its_ending) Keeps)) ∷ now) link (is_some_byte rest)
+          (unasked_told config now link (is_some_byte rest) (reply_number past) (Passes link command its_form (Some its_ending) Keeps) byte_now)))
 
-    ended_caused : (recording : Recording) → IsRecorded config command outcome recording (Comes link whole ∷ past)
-        → Caused config (Tells (reply_number past) (Passes link command its_form (Some its_ending) recording) ∷ unasked link (is_some_byte rest)) (Comes link whole ∷ past)
-    ended_caused Nothing its_recorded =
-        tells (is_passed its (Ends outcome) r p, ends_so, owes_then its (Ends outcome) r p, its_recorded, named_now)
-        (unasked_told config (Comes link whole ∷ past) link (is_some_byte rest) (reply_number past) (Passes link command its_form (Some its_ending) Nothing) a_byte)
-    ended_caused Accepts its_recorded =
-        tells (is_passed its (Ends outcome) r p, ends_so, owes_then its (Ends outcome) r p, its_recorded, named_now)
-        (unasked_told config (Comes link whole ∷ past) link (is_some_byte rest) (reply_number past) (Passes link command its_form (Some its_ending) Accepts) a_byte)
-    ended_caused Keeps its_recorded =
-        tells (is_passed its (Ends outcome) r p, ends_so, owes_then its (Ends outcome) r p, its_recorded, named_now) (keeping_caused its_recorded)
+      ended_caused : (recording : Recording) → IsRecorded config command outcome recording now → kept_on now ≡ kept_on past
+          → Caused config (Tells (reply_number past) (Passes link command its_form (Some its_ending) recording) ∷ unasked link (is_some_byte rest)) now
+      ended_caused Nothing its_recorded k =
+          tells (passed_now, ends_now, owes_now, its_recorded, named_then)
+          (unasked_told config now link (is_some_byte rest) (reply_number past) (Passes link command its_form (Some its_ending) Nothing) byte_now)
+      ended_caused Accepts its_recorded k =
+          tells (passed_now, ends_now, owes_now, its_recorded, named_then)
+          (unasked_told config now link (is_some_byte rest) (reply_number past) (Passes link command its_form (Some its_ending) Accepts) byte_now)
+      ended_caused Keeps its_recorded k =
+          tells (passed_now, ends_now, owes_now, its_recorded, named_then) (keeping_caused its_recorded k)
+
+    -- which changes nothing of what the end means
+    recorded_later : (server : ℕ) (gtid : Gtid) (recording : Recording) → IsRecorded config command outcome recording (Comes link whole ∷ past)
+        → IsRecorded config command outcome recording (Puts (Records server gtid) ∷ Comes link whole ∷ past)
+    recorded_later server gtid Nothing its_recorded = λ set.
+        its_recorded (record { class = set.class; status = set.status; done = set.done; free = set.free })
+    recorded_later server gtid Accepts its_recorded =
+        let set = its_recorded.0 in (record { class = set.class; status = set.status; done = set.done; free = set.free }, its_recorded.1)
+    recorded_later server gtid Keeps its_recorded =
+        let set = its_recorded.0 in (record { class = set.class; status = set.status; done = set.done; free = set.free }, its_recorded.1)
+
+    end_caused : (recording : Recording) → IsRecorded config command outcome recording (Comes link whole ∷ past)
+        → StillCaused config (Tells (reply_number past) (Passes link command its_form (Some its_ending) recording) ∷ unasked link (is_some_byte rest)) (Comes link whole ∷ past)
+    end_caused recording its_recorded = record {
+      stands = ended_caused (Comes link whole ∷ past) refl (is_passed its (Ends outcome) r p) ends_so (owes_then its (Ends outcome) r p) named_now a_byte recording
+          its_recorded refl;
+      later = λ server gtid.
+          ended_caused (Puts (Records server gtid) ∷ Comes link whole ∷ past) refl (passed_later (is_passed its (Ends outcome) r p) server gtid) ends_so
+          (owes_then its (Ends outcome) r p) named_now (unasked_recorded config (Comes link whole ∷ past) link (is_some_byte rest) server gtid a_byte) recording
+          (recorded_later server gtid recording its_recorded) refl;
+    }
 
   pub reply_caused : (its : Role) (far : Progress) (r : role e.kind e.sofar payload ≡ Some its) (p : progress e.kind e.sofar payload ≡ Some far)
-      → Caused config (after_answer link command (form its far r p) (named_in its payload (named_on link past)) far (is_some_byte rest) (reply_number past) (λ outcome. recording_of config link past outcome))
+      → StillCaused config (after_answer link command (form its far r p) (named_in its payload (named_on link past)) far (is_some_byte rest) (reply_number past) (λ outcome. recording_of config link past outcome))
       (Comes link (said its far r p) ∷ past)
   reply_caused its More r p =
       let begins = (progress_is_exact e.kind e.sofar payload).more.0 p in
       let begins : Begins command.kind (e.sofar ++ payload ∷ []) = rw next.kind at begins in
-      tells (is_passed its More r p, subst (Begins command.kind) (sym (came_is its More r p)) begins) nothing
+      let begins : Begins command.kind (came_on link (Comes link (said its More r p) ∷ past)) = subst (Begins command.kind) (sym (came_is its More r p)) begins in
+      record {
+        stands = tells (is_passed its More r p, begins) nothing;
+        later = λ server gtid. tells (passed_later (is_passed its More r p) server gtid, begins) nothing;
+      }
   reply_caused its (Ends outcome) r p =
-      ended_caused its outcome r p (recording_of config link past outcome)
+      end_caused its outcome r p (recording_of config link past outcome)
       (recorded config command next.id link past payload its outcome number (is_some_byte rest) next.pending next.asked_it)

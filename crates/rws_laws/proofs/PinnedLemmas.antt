@@ -3,19 +3,29 @@ use Rattle.std.proofs.Common.{◌≡◌, ℕ, Bool, true, false, List, [], ◌�
 use Rattle.std.specs.Prelude.{◌⊎◌, if◌then◌else◌}
 use Rattle.rws_class.specs.declared.class.Class.{Class}
 use Rattle.rws_config.specs.declared.config.Config.{Config}
+use Rattle.rws_config.specs.declared.limits.TheConstants.{SERVER_PAYLOAD}
+use Rattle.rws_wire.specs.Payloads.{first_payload}
+use Rattle.rws_link.specs.declared.step.LinkStep.{LinkStep}
+use Rattle.rws_link.specs.declared.step.LinkStep.TheVariants as steps
+use Rattle.rws_commands.specs.declared.judged.Judged.{Judged}
 use Rattle.rws_reply.specs.declared.kind.Outcome.{Outcome}
 use Rattle.rws_record.specs.Item.{Item}
 use Rattle.rws_record.specs.Item.Item.{Accepted, TurnsAway, Began, ClientBytes, LinkReady, LinkBytes, ClientGone, LinkLost, Ticks, Routed, Comes, Connects, Takes, Floods, Puts, Starves}
-use Rattle.rws_record.specs.Item.Put.{Hands, Tells, Routes, Opens, LogsInto, Sends, Forgets, Drops, Closes}
-use Rattle.rws_record.specs.Item.Purpose.{Prepares, Asks, Plays}
+use Rattle.rws_record.specs.Item.Put.{Hands, Tells, Records, Routes, Opens, LogsInto, Sends, Forgets, Drops, Closes}
+use Rattle.rws_record.specs.Item.Purpose.{Prepares, Asks, Plays, Waits, Probes}
 use Rattle.rws_record.specs.Item.Recording.{Nothing, Accepts, Keeps}
 use Rattle.rws_record.specs.Item.Tell.{Passes, Owns, Refuses}
 use Rattle.rws_commands.specs.Commands.{class_of_command, keeps}
-use Rattle.rws_record.specs.Values.{answer_to, answered_by, class_by_pending, goes_on, kept_by, kept_on, or_link, pending, pinned, routing, sent_on, speaks, transaction}
-use Rattle.rws_laws.specs.Causes.{AreCaused}
+use Rattle.rws_record.specs.Values.{answer_to, answered_by, class_by_pending, goes_on, kept_by, kept_on, linked, links, unread, or_link, pending, pinned, routing, sent_on, speaks, transaction}
+use Rattle.rws_laws.specs.Client.{Took}
+use Rattle.rws_laws.specs.Client.Took.{took}
+use Rattle.rws_laws.specs.Causes.{AreCaused, IsRead}
 use Rattle.rws_laws.specs.Laws.{PinnedTakesNoRoute, StaysOnItsLink}
 use Rattle.rws_laws.proofs.CausesLemmas.{causes}
+use Rattle.rws_laws.proofs.CheckLemmas.{Checking, Heard, awaits_so, checking_on, heard_goes, part_heard, put_keeps, unchecked}
+use Rattle.rws_laws.proofs.CheckLemmas.Heard.{no_check}
 use Rattle.rws_laws.proofs.GivenLemmas.{goes_then, refused_goes}
+use Rattle.rws_laws.proofs.ListLemmas.{has_it}
 use Rattle.rws_laws.proofs.ReplyLemmas.{goes_without, unless_before}
 use Rattle.rws_laws.proofs.Sound.{same_some}
 use Rattle.rws_laws.proofs.TransactionLemmas.{answered_there}
@@ -40,6 +50,45 @@ neither_link None other e = (refl, e)
 pub asked_nowhere : (config : Config) (past below : List Item) → past ≡ Puts Routes ∷ below → AreCaused config past → goes_on config past ≡ None
 asked_nowhere config past below is caused =
     let here : AreCaused config (Puts Routes ∷ below) = subst (AreCaused config) is caused in ap (goes_on config) is ∙ here.0.2
+
+-- What goes before a read goes for the pending command
+
+read_heard : (config : Config) (past : List Item) (link : ℕ) (said : LinkStep) → IsRead config (Comes link said) past → Heard link said past
+read_heard config past link (steps.Part payload its far next more) read =
+    let awaits = awaits_so (linked link past) read.0 read.3 in
+    part_heard past link read.0 awaits.0 payload read.1 next its far more (has_it (links past) link read.2) awaits.1
+    (ap (λ (bytes : List ℕ). first_payload SERVER_PAYLOAD read.0.next bytes) (sym (ap unread awaits.1)) ∙ read.4) read.5 read.6
+read_heard config past link (steps.Lost cause) read = no_check refl
+read_heard config past link (steps.Send packets) read = no_check refl
+read_heard config past link steps.LoggedIn read = no_check refl
+read_heard config past link steps.Idle read = no_check refl
+
+taken_before : (config : Config) (past : List Item) (payload : List ℕ) (number : ℕ) {now : List Item} (it : Judged) → Took config payload number now
+    → now ≡ Takes it number ∷ past → pending past ≡ None
+taken_before config past payload number it (took {past = below} p f b) is = let same : below ≡ past = cc in ap pending (sym same) ∙ p
+
+pub checks_so : (config : Config) (past : List Item) → AreCaused config past → Checking config past
+checks_so config [] caused = λ link e check has a asked. absurd cc
+checks_so config (Puts put ∷ past) caused = checking_on config past (Puts put) (put_keeps config past put caused.0) (checks_so config past caused.1)
+checks_so config (Comes link said ∷ past) caused =
+    checking_on config past (Comes link said) (read_heard config past link said caused.1) (checks_so config past caused.2)
+checks_so config (Routed words loads next found ∷ past) caused =
+    checking_on config past (Routed words loads next found) (asked_nowhere config past caused.1.0 caused.1.1 caused.2) (checks_so config past caused.2)
+checks_so config (Takes it number ∷ past) caused =
+    checking_on config past (Takes it number) (taken_before config past caused.1.0 number it caused.1.1 refl) (checks_so config past caused.2)
+checks_so config (Starves made number ∷ past) caused = checking_on config past (Starves made number) tt (checks_so config past caused.3)
+checks_so config (Accepted session scramble reading ∷ past) caused =
+    checking_on config past (Accepted session scramble reading) tt (checks_so config past caused.2)
+checks_so config (TurnsAway told ∷ past) caused = checking_on config past (TurnsAway told) tt (checks_so config past caused.2)
+checks_so config (Began link server reading ∷ past) caused = checking_on config past (Began link server reading) tt (checks_so config past caused.2)
+checks_so config (ClientBytes bytes ∷ past) caused = checking_on config past (ClientBytes bytes) tt (checks_so config past caused.2)
+checks_so config (LinkReady link ∷ past) caused = checking_on config past (LinkReady link) tt (checks_so config past caused.2)
+checks_so config (LinkBytes link bytes ∷ past) caused = checking_on config past (LinkBytes link bytes) tt (checks_so config past caused.2)
+checks_so config (ClientGone ∷ past) caused = checking_on config past ClientGone tt (checks_so config past caused.2)
+checks_so config (LinkLost gone ∷ past) caused = checking_on config past (LinkLost gone) tt (checks_so config past caused.2)
+checks_so config (Ticks reading ∷ past) caused = checking_on config past (Ticks reading) tt (checks_so config past caused.2)
+checks_so config (Connects said ∷ past) caused = checking_on config past (Connects said) tt (checks_so config past caused.2)
+checks_so config (Floods bytes ∷ past) caused = checking_on config past (Floods bytes) tt (checks_so config past caused.2)
 
 -- The pending command, where it was sent, is to go on the link on which it was sent
 
@@ -76,17 +125,22 @@ sent_goes config (LinkReady link ∷ past) caused = sent_goes config past caused
 sent_goes config (LinkBytes link bytes ∷ past) caused = sent_goes config past caused.2
 sent_goes config (ClientGone ∷ past) caused = sent_goes config past caused.2
 sent_goes config (Ticks reading ∷ past) caused = sent_goes config past caused.2
-sent_goes config (Comes link said ∷ past) caused = sent_goes config past caused.2
+sent_goes config (Comes from said ∷ past) caused = λ link s.
+    heard_goes config past from said None (unchecked (checks_so config past caused.2) (read_heard config past from said caused.1) link s)
+    ∙ sent_goes config past caused.2 link s
 sent_goes config (Connects said ∷ past) caused = sent_goes config past caused.2
 sent_goes config (Floods bytes ∷ past) caused = sent_goes config past caused.2
 sent_goes config (Starves made number ∷ past) caused = sent_goes config past caused.3
 sent_goes config (Puts (Hands packets) ∷ past) caused = sent_goes config past caused.1
+sent_goes config (Puts (Records server gtid) ∷ past) caused = sent_goes config past caused.1
 sent_goes config (Puts Routes ∷ past) caused = sent_goes config past caused.1
 sent_goes config (Puts (Opens link server login) ∷ past) caused = sent_goes config past caused.1
 sent_goes config (Puts (Forgets link id) ∷ past) caused = sent_goes config past caused.1
 sent_goes config (Puts (LogsInto link packets) ∷ past) caused = sent_goes config past caused.1
 sent_goes config (Puts (Sends link Prepares) ∷ past) caused = sent_goes config past caused.1
 sent_goes config (Puts (Sends link (Plays entry)) ∷ past) caused = sent_goes config past caused.1
+sent_goes config (Puts (Sends link (Waits gtid seconds)) ∷ past) caused = sent_goes config past caused.1
+sent_goes config (Puts (Sends link (Probes gtid)) ∷ past) caused = sent_goes config past caused.1
 sent_goes config (Puts (Closes reason) ∷ past) caused = sent_goes config past caused.1
 
 -- The link that the session is kept on and that of its transaction are one
@@ -167,12 +221,15 @@ agree config (Takes it number ∷ past) caused = agree config past caused.2
 agree config (Floods bytes ∷ past) caused = agree config past caused.2
 agree config (Starves made number ∷ past) caused = agree config past caused.3
 agree config (Puts (Hands packets) ∷ past) caused = agree config past caused.1
+agree config (Puts (Records server gtid) ∷ past) caused = agree config past caused.1
 agree config (Puts Routes ∷ past) caused = agree config past caused.1
 agree config (Puts (Opens link server login) ∷ past) caused = agree config past caused.1
 agree config (Puts (Forgets link id) ∷ past) caused = agree config past caused.1
 agree config (Puts (LogsInto link packets) ∷ past) caused = agree config past caused.1
 agree config (Puts (Sends link Prepares) ∷ past) caused = agree config past caused.1
 agree config (Puts (Sends link (Plays entry)) ∷ past) caused = agree config past caused.1
+agree config (Puts (Sends link (Waits gtid seconds)) ∷ past) caused = agree config past caused.1
+agree config (Puts (Sends link (Probes gtid)) ∷ past) caused = agree config past caused.1
 agree config (Puts (Drops link cause) ∷ past) caused = agree config past caused.1
 agree config (Puts (Closes reason) ∷ past) caused = agree config past caused.1
 

@@ -16,8 +16,8 @@ use Rattle.rws_link.specs.declared.step.LinkStep.TheVariants as steps
 use Rattle.rws_link.specs.Stepping.{LinkState, Awaits, Exchange}
 use Rattle.rws_record.specs.Item.{Item, Purpose, Put}
 use Rattle.rws_record.specs.Item.Item.{Accepted, TurnsAway, Began, ClientBytes, LinkReady, LinkBytes, ClientGone, LinkLost, Ticks, Comes, Puts}
-use Rattle.rws_record.specs.Item.Put.{Hands, Tells, Routes, Opens, LogsInto, Sends, Forgets, Drops, Closes}
-use Rattle.rws_record.specs.Item.Purpose.{Prepares, Asks, Plays}
+use Rattle.rws_record.specs.Item.Put.{Hands, Tells, Records, Routes, Opens, LogsInto, Sends, Forgets, Drops, Closes}
+use Rattle.rws_record.specs.Item.Purpose.{Prepares, Asks, Plays, Waits, Probes}
 use Rattle.rws_record.specs.Values.{asked_on, awaited, is_up, kind_of, linked, prepared_by}
 use Rattle.rws_record.specs.Record.{IsBeginning, IsInput, IsRecord}
 use Rattle.rws_record.specs.Record.IsRecord.{begins, steps as goes, answers as answered, hears, starves}
@@ -25,7 +25,7 @@ use Rattle.rws_record.proofs.LinkedLemmas.{Says, awaits_asked}
 use Rattle.rws_record.proofs.LinkedLemmas.Says.{answers, enters, hurries, fails, breaks, part, garbled, wrong, again}
 use Rattle.rws_record.proofs.StepLemmas.{Due, Step, of_next}
 use Rattle.rws_record.proofs.StepLemmas.Due.{comes, connects, takes}
-use Rattle.rws_record.proofs.StepLemmas.Step.{pays, asks, prepares, forgets, plays, sends, floods, reads}
+use Rattle.rws_record.proofs.StepLemmas.Step.{pays, asks, prepares, forgets, plays, sends, waits_first, probes_first, floods, reads}
 use Rattle.rws_laws.specs.Servers.{WasPrepared, came_on}
 use Rattle.rws_laws.specs.Servers.WasPrepared.{with_session, as_ready, by_reply, since}
 use Rattle.rws_laws.proofs.CameLemmas.{Came, legal_came}
@@ -60,6 +60,8 @@ module _ (past : List Item) (from : ℕ) (came : Came past) (before : ArePrepare
     part_now (Ends (Done status)) None p a u = since (before from u)
     part_now (Ends (Done status)) (Some (Asks command id)) p a u = since (before from u)
     part_now (Ends (Done status)) (Some (Plays command)) p a u = since (before from u)
+    part_now (Ends (Done status)) (Some (Waits gtid seconds)) p a u = since (before from u)
+    part_now (Ends (Done status)) (Some (Probes gtid)) p a u = since (before from u)
     part_now (Ends (Done status)) (Some Prepares) p a u = whole_now status p a
 
   said_now : (state : LinkState) (said : LinkStep) → linked from past ≡ state → Says state said
@@ -96,6 +98,7 @@ put_prepared past (Opens opened server login) before = λ link u. by_test link (
     by_test link true u = absurd cc
     by_test link false u = since (before link u)
 put_prepared past (Hands packets) before = λ link u. since (before link u)
+put_prepared past (Records server gtid) before = λ link u. since (before link u)
 put_prepared past (Tells number tell) before = λ link u. since (before link u)
 put_prepared past Routes before = λ link u. since (before link u)
 put_prepared past (Forgets to id) before = λ link u. since (before link u)
@@ -116,7 +119,9 @@ step_prepared {past = past} (pays {put = put} o) came before = put_prepared past
 step_prepared {past = past} (asks o n p k l) came before = put_prepared past Routes before
 step_prepared {past = past} (prepares {link = to} o n k c) came before = put_prepared past (Sends to Prepares) before
 step_prepared {past = past} (plays {link = to} {entry = entry} o n k c t s) came before = put_prepared past (Sends to (Plays entry)) before
-step_prepared {past = past} (sends {link = to} {command = command} {id = id} o n p s k c t d i) came before = put_prepared past (Sends to (Asks command id)) before
+step_prepared {past = past} (sends {link = to} {command = command} {id = id} o n p s k c t d i v) came before = put_prepared past (Sends to (Asks command id)) before
+step_prepared {past = past} (waits_first {link = to} {gtid = gtid} o n p s g f t d v) came before = put_prepared past (Sends to (Waits gtid _)) before
+step_prepared {past = past} (probes_first {link = to} {gtid = gtid} o n p s g f t d v) came before = put_prepared past (Sends to (Probes gtid)) before
 step_prepared (forgets o n has f t) came before = λ link u. since (before link u)
 step_prepared (floods o n p above) came before = λ link u. since (before link u)
 step_prepared (reads o n due) came before = due_prepared due came before

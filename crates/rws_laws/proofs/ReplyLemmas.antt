@@ -8,6 +8,7 @@ use Rattle.rws_wire.specs.Packets.{number_behind}
 use Rattle.rws_wire.specs.declared.drop_cause.DropCause.{DropCause}
 use Rattle.rws_wire.specs.declared.drop_cause.DropCause.TheVariants.{End, Kept}
 use Rattle.rws_reply.specs.Replies.{Payload}
+use Rattle.rws_gtid.specs.declared.Gtid.{Gtid}
 use Rattle.rws_native.specs.declared.login.Login.{Login}
 use Rattle.rws_route.specs.declared.destination.Target.{Target}
 use Rattle.rws_route.specs.declared.destination.Target.TheVariants.{Primary, Replica, NoPrimary as Nowhere}
@@ -20,16 +21,16 @@ use Rattle.rws_record.specs.Item.{Item, Purpose, Put}
 use Rattle.rws_record.specs.Item.Item.{Puts}
 use Rattle.rws_record.specs.Item.Recording.{Nothing}
 use Rattle.rws_record.specs.Item.Tell.{Passes, Owns, Refuses}
-use Rattle.rws_record.specs.Item.Put.{Hands, Tells, Routes, Opens, LogsInto, Sends, Forgets, Drops, Closes}
+use Rattle.rws_record.specs.Item.Put.{Hands, Tells, Records, Routes, Opens, LogsInto, Sends, Forgets, Drops, Closes}
 use Rattle.rws_record.specs.Values.{contains, or_link, pending, reply_number, told, unless_link, without}
-use Rattle.rws_record.specs.Rules.{Loss, after_keeping, after_loss_by, after_route, is_loss, loss_of, after_loss, opening, owed, refusing, ending}
+use Rattle.rws_record.specs.Rules.{Loss, after_keeping, after_loss_by, after_route, is_loss, loss_of, after_loss, opening, owed, recording_commit, refusing, ending}
 use Rattle.rws_record.proofs.WithoutLemmas.{without_has_less}
 use Rattle.rws_record.specs.Rules.Loss.{CutsReply, HidesOutcome, TakesState, EndsTransaction, StartsReplay, SendsElsewhere, IsForgotten}
 use Rattle.rws_laws.specs.Causes.{number_behind_all}
 use Rattle.rws_laws.specs.Client.Asked.{before}
 use Rattle.rws_laws.proofs.ListLemmas.{other_stays, stays_other}
 use Rattle.rws_laws.proofs.Sound.{SentBy, ToldBy, Asking, passed, WaitsBy, WaitsOn, same_some}
-use Rattle.rws_laws.proofs.Sound.WaitsOn.{prepares, repeats, replies}
+use Rattle.rws_laws.proofs.Sound.WaitsOn.{prepares, repeats, checks, replies}
 use Rattle.rws_laws.proofs.Sound.ToldBy.{none_told, a_part, all}
 
 -- Numbers of a reply
@@ -148,6 +149,7 @@ pub passes_same : {link : ℕ} {e : Exchange} {asked : Option Purpose} {up : Boo
     → WaitsOn link e asked up pending sent handle told now
 passes_same owing now same (prepares a u) = prepares a u
 passes_same owing now same (repeats a) = repeats a
+passes_same owing now same (checks a) = checks a
 passes_same {told = list} owing now same (replies awaited) = replies (record {
   command = awaited.command;
   id = awaited.id;
@@ -169,6 +171,7 @@ still_there : {link : ℕ} {e : Exchange} {asked : Option Purpose} {up : Bool} {
     → WaitsOn link e asked up pending (unless_link gone sent) handle told now
 still_there gone owing now same n (prepares a u) = prepares a u
 still_there gone owing now same n (repeats a) = repeats a
+still_there gone owing now same n (checks a) = checks a
 still_there {link = link} {sent = sent} {told = list} gone owing now same n (replies awaited) = replies (record {
   command = awaited.command;
   id = awaited.id;
@@ -191,6 +194,7 @@ passed_both (Tells number (Passes link command payload outcome recording) ∷ re
 passed_both (Tells number (Owns status) ∷ rest) others = passed_both rest others
 passed_both (Tells number (Refuses error) ∷ rest) others = passed_both rest others
 passed_both (Hands packets ∷ rest) others = passed_both rest others
+passed_both (Records server gtid ∷ rest) others = passed_both rest others
 passed_both (Routes ∷ rest) others = passed_both rest others
 passed_both (Opens link server login ∷ rest) others = passed_both rest others
 passed_both (Forgets link id ∷ rest) others = passed_both rest others
@@ -221,6 +225,11 @@ pub drop_passes : (config : Config) (link : ℕ) (cause : DropCause) (past : Lis
     → passed (owed config (Puts (Drops link cause) ∷ past)) ≡ passed (drop 1 (owed config past))
 drop_passes config link cause past =
     lossy_passes (is_loss cause) (after_loss config link past) (drop 1 (owed config past)) (lost_passes config link past)
+
+-- nor does the commit that stands in front
+pub recording_passes : (server : ℕ) (commit : Option Gtid) (list : List Put) → passed (recording_commit server commit ++ list) ≡ passed list
+recording_passes server None list = refl
+recording_passes server (Some gtid) list = refl
 
 others_pass : (list : List ℕ) → passed (map (λ link. Drops link Kept) list) ≡ []
 others_pass [] = refl
@@ -258,6 +267,7 @@ pub none_waits : {link : ℕ} {e : Exchange} {asked : Option Purpose} {up : Bool
     → pending ≡ None → WaitsOn link e asked up pending sent handle told owed → WaitsOn link e asked up now where_now at list owes
 none_waits now where_now at list owes p (prepares a u) = prepares a u
 none_waits now where_now at list owes p (repeats a) = repeats a
+none_waits now where_now at list owes p (checks a) = checks a
 none_waits now where_now at list owes p (replies awaited) = let w = awaited.waits in absurd cc
 
 pub waits_none : {exchange : ℕ → Option Exchange} {asked : ℕ → Option Purpose} {up : ℕ → Bool} {pending : Option Command} {sent : Option ℕ} {handle : ℕ} {told : List Payload}
@@ -271,4 +281,5 @@ pub unsent_waits : {link : ℕ} {e : Exchange} {asked : Option Purpose} {up : Bo
     → sent ≡ None → WaitsOn link e asked up pending sent handle told owed → WaitsOn link e asked up now where_now at list owes
 unsent_waits now where_now at list owes s (prepares a u) = prepares a u
 unsent_waits now where_now at list owes s (repeats a) = repeats a
+unsent_waits now where_now at list owes s (checks a) = checks a
 unsent_waits now where_now at list owes s (replies awaited) = let there = awaited.sent_there in absurd cc

@@ -13,17 +13,18 @@ use Rattle.rws_routing.specs.Routings.{finds_late, is_at, is_late, or_number, se
 use Rattle.rws_config.specs.declared.config.Config.{Config}
 use Rattle.rws_commands.specs.declared.command.Command.{Command}
 use Rattle.rws_commands.specs.declared.proxy_error.ProxyError.{ProxyError}
-use Rattle.rws_commands.specs.declared.proxy_error.ProxyError.TheVariants.{UnknownCommand, NotSupported, UnknownStatement, BadExecute, TooManyStatements, NotInReadOnly, TooManyConnections, CommandTooLarge, NoPrimary, OutOfMemory}
+use Rattle.rws_commands.specs.declared.proxy_error.ProxyError.TheVariants.{UnknownCommand, NotSupported, UnknownStatement, BadExecute, TooManyStatements, NotInReadOnly, TooManyConnections, CommandTooLarge, NoPrimary, PrimaryBehind, OutOfMemory}
 use Rattle.rws_record.specs.Item.{Item}
 use Rattle.rws_record.specs.Item.Item.{Accepted, TurnsAway, Began, ClientBytes, LinkReady, LinkBytes, ClientGone, LinkLost, Ticks, Routed, Comes, Connects, Takes, Floods, Puts, Starves}
-use Rattle.rws_record.specs.Item.Put.{Hands, Tells, Routes, Opens, LogsInto, Sends, Forgets, Drops, Closes}
+use Rattle.rws_record.specs.Item.Put.{Hands, Tells, Records, Routes, Opens, LogsInto, Sends, Forgets, Drops, Closes}
 use Rattle.rws_record.specs.Item.Tell.{Passes, Owns, Refuses}
-use Rattle.rws_record.specs.Values.{contains, first_to, link_to, links, login_of, now, pending, reply_number, routing, sent_on, server_of, told}
+use Rattle.rws_record.specs.Values.{checked_on, contains, first_to, link_to, links, login_of, now, pending, reply_number, routing, sent_on, server_of, told}
 use Rattle.rws_record.specs.Rules.{after_route, opening, refusing}
 use Rattle.rws_laws.specs.Client.{IsPending}
 use Rattle.rws_laws.specs.Client.Asked.{before}
 use Rattle.rws_laws.specs.Causes.{IsAt, earlier, first_nowhere, found_last, number_behind_all}
 use Rattle.rws_laws.specs.Causes.IsAt.{primary, replica}
+use Rattle.rws_laws.proofs.CheckLemmas.{heard_since, heard_waits}
 use Rattle.rws_laws.proofs.ListLemmas.{has_it}
 use Rattle.rws_laws.proofs.Sound.{Caused, IsAsked, Telling}
 use Rattle.rws_laws.proofs.Sound.Caused.{nothing, opens, tells}
@@ -46,6 +47,7 @@ refused_waits config past number NotInReadOnly = refl
 refused_waits config past number TooManyConnections = refl
 refused_waits config past number CommandTooLarge = refl
 refused_waits config past number NoPrimary = refl
+refused_waits config past number (PrimaryBehind wanted found) = refl
 refused_waits config past number OutOfMemory = refl
 
 same_earlier : (before : Option ℕ) (reading : ℕ) → or_number before reading ≡ earlier before reading
@@ -70,11 +72,12 @@ waits_since config (ClientBytes bytes ∷ past) = waits_since config past
 waits_since config (LinkReady link ∷ past) = waits_since config past
 waits_since config (LinkBytes link bytes ∷ past) = waits_since config past
 waits_since config (ClientGone ∷ past) = waits_since config past
-waits_since config (Comes link said ∷ past) = waits_since config past
+waits_since config (Comes link said ∷ past) = heard_since (checked_on link said past) (routing config past) ∙ waits_since config past
 waits_since config (Connects said ∷ past) = waits_since config past
 waits_since config (Floods bytes ∷ past) = waits_since config past
 waits_since config (Starves made number ∷ past) = waits_since config past
 waits_since config (Puts (Hands packets) ∷ past) = waits_since config past
+waits_since config (Puts (Records server gtid) ∷ past) = waits_since config past
 waits_since config (Puts (Tells number (Passes link command payload outcome recording)) ∷ past) = waits_since config past
 waits_since config (Puts (Tells number (Owns status)) ∷ past) = waits_since config past
 waits_since config (Puts Routes ∷ past) = waits_since config past
@@ -102,6 +105,7 @@ refused_waiting config past number TooManyConnections w = w
 refused_waiting config past number CommandTooLarge w = w
 refused_waiting config past number OutOfMemory w = w
 refused_waiting config past number NoPrimary w = absurd cc
+refused_waiting config past number (PrimaryBehind wanted found) w = absurd cc
 
 pub nowhere_last : (config : Config) (past : List Item) → (routing config past).waits ≡ true → found_last past ≡ Some Nowhere
 nowhere_last config [] w = absurd cc
@@ -122,11 +126,12 @@ nowhere_last config (ClientBytes bytes ∷ past) w = nowhere_last config past w
 nowhere_last config (LinkReady link ∷ past) w = nowhere_last config past w
 nowhere_last config (LinkBytes link bytes ∷ past) w = nowhere_last config past w
 nowhere_last config (ClientGone ∷ past) w = nowhere_last config past w
-nowhere_last config (Comes link said ∷ past) w = nowhere_last config past w
+nowhere_last config (Comes link said ∷ past) w = nowhere_last config past (sym (heard_waits (checked_on link said past) (routing config past)) ∙ w)
 nowhere_last config (Connects said ∷ past) w = nowhere_last config past w
 nowhere_last config (Floods bytes ∷ past) w = nowhere_last config past w
 nowhere_last config (Starves made number ∷ past) w = nowhere_last config past w
 nowhere_last config (Puts (Hands packets) ∷ past) w = nowhere_last config past w
+nowhere_last config (Puts (Records server gtid) ∷ past) w = nowhere_last config past w
 nowhere_last config (Puts (Tells number (Passes link command payload outcome recording)) ∷ past) w = nowhere_last config past w
 nowhere_last config (Puts (Tells number (Owns status)) ∷ past) w = nowhere_last config past w
 nowhere_last config (Puts Routes ∷ past) w = nowhere_last config past w

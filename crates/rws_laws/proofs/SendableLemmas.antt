@@ -31,8 +31,8 @@ use Rattle.rws_commands.specs.Requests.{request_of}
 use Rattle.rws_commands.specs.Statements.{Statements, entry_from, failed_if, taken_for, unplayed}
 use Rattle.rws_record.specs.Item.{Ending, Item, Purpose, Put, Recording}
 use Rattle.rws_record.specs.Item.Item.{Accepted, TurnsAway, Began, ClientBytes, LinkReady, LinkBytes, ClientGone, LinkLost, Ticks, Routed, Connects, Takes, Puts, Starves}
-use Rattle.rws_record.specs.Item.Put.{Hands, Tells, Routes, Opens, LogsInto, Sends, Forgets, Drops, Closes}
-use Rattle.rws_record.specs.Item.Purpose.{Prepares, Asks, Plays}
+use Rattle.rws_record.specs.Item.Put.{Hands, Tells, Records, Routes, Opens, LogsInto, Sends, Forgets, Drops, Closes}
+use Rattle.rws_record.specs.Item.Purpose.{Prepares, Asks, Plays, Waits, Probes}
 use Rattle.rws_record.specs.Item.Recording.{Nothing, Accepts, Keeps}
 use Rattle.rws_record.specs.Item.Tell.{Passes, Owns, Refuses}
 use Rattle.rws_record.specs.Values.{asked_on, awaited, command_in, contains, cursor, fronted, goes_on, kept_by, kept_on, links, or_link, pending, pinned, prepares, routing, sent_all, statements, transaction, without}
@@ -41,7 +41,7 @@ use Rattle.rws_record.specs.Record.{IsBeginning, IsInput, IsRecord}
 use Rattle.rws_record.specs.Record.IsRecord.{begins, steps as goes, answers as answered, hears, starves}
 use Rattle.rws_record.proofs.StepLemmas.{Due, Step, of_next}
 use Rattle.rws_record.proofs.StepLemmas.Due.{comes, connects, takes}
-use Rattle.rws_record.proofs.StepLemmas.Step.{pays, asks, prepares as prepares_it, forgets, plays as plays_it, sends, floods, reads}
+use Rattle.rws_record.proofs.StepLemmas.Step.{pays, asks, prepares as prepares_it, forgets, plays as plays_it, sends, waits_first, probes_first, floods, reads}
 use Rattle.rws_record.proofs.WithoutLemmas.{without_has_less}
 use Rattle.rws_laws.specs.Causes.{AreCaused, IsCaused, IsOpening, SetsSession}
 use Rattle.rws_laws.proofs.CausesLemmas.{causes}
@@ -241,6 +241,14 @@ module _ (config : Config) (past : List Item) (known : Known config past) where
           → statement.closed ≡ false → statement_at (failed_if prepares s).table.statements n ≡ Some statement
       failed_open true s n statement found open_ = found
       failed_open false s n statement found open_ = found
+  refused_known number (errors.PrimaryBehind wanted found) =
+      known_still config past (Puts (Tells number (Refuses (errors.PrimaryBehind wanted found)))) known (failed_follows (prepares (pending past)) (statements config past))
+      (λ link h. h) (λ at e. e) (λ link entry q. inl q) (λ command e. absurd cc) (failed_open (prepares (pending past)) (statements config past)) (λ link. refl)
+    where
+      failed_open : (prepares : Bool) (s : Statements) (n : ℕ) (statement : Prepared) → statement_at s.table.statements n ≡ Some statement
+          → statement.closed ≡ false → statement_at (failed_if prepares s).table.statements n ≡ Some statement
+      failed_open true s n statement found open_ = found
+      failed_open false s n statement found open_ = found
   refused_known number errors.UnknownCommand = quiet (Puts (Tells number (Refuses errors.UnknownCommand))) refl (λ link h. h) refl (λ link. refl) (λ command p. p) (λ link. refl) known
   refused_known number errors.NotSupported = quiet (Puts (Tells number (Refuses errors.NotSupported))) refl (λ link h. h) refl (λ link. refl) (λ command p. p) (λ link. refl) known
   refused_known number errors.UnknownStatement = quiet (Puts (Tells number (Refuses errors.UnknownStatement))) refl (λ link h. h) refl (λ link. refl) (λ command p. p) (λ link. refl) known
@@ -291,10 +299,13 @@ module _ (config : Config) (past : List Item) (known : Known config past) where
         quiet (Puts (Tells number (Owns status))) refl (λ link h. h) refl (λ link. refl) (λ command p. p) (λ link. refl) known
     put_known (Tells number (Refuses error)) cause = refused_known number error
     put_known (Hands packets) cause = quiet (Puts (Hands packets)) refl (λ link h. h) refl (λ link. refl) (λ command p. p) (λ link. refl) known
+    put_known (Records server gtid) cause = quiet (Puts (Records server gtid)) refl (λ link h. h) refl (λ link. refl) (λ command p. p) (λ link. refl) known
     put_known Routes cause = quiet (Puts Routes) refl (λ link h. h) refl (λ link. refl) (λ command p. p) (λ link. refl) known
     put_known (Opens opened server login) cause = open_known opened server login (free_so opened server cause.0)
     put_known (LogsInto link packets) cause = quiet (Puts (LogsInto link packets)) refl (λ link h. h) refl (λ link. refl) (λ command p. p) (λ link. refl) known
     put_known (Sends to Prepares) cause = sent_known to Prepares (λ at e. e) (λ entry q. absurd cc)
+    put_known (Sends to (Waits gtid seconds)) cause = sent_known to (Waits gtid seconds) (λ at e. e) (λ entry q. absurd cc)
+    put_known (Sends to (Probes gtid)) cause = sent_known to (Probes gtid) (λ at e. e) (λ entry q. absurd cc)
     put_known (Sends to (Plays entry)) cause =
         sent_known to (Plays entry) (λ at e. e)
         (λ other q. let same : entry ≡ other = cc in
@@ -332,8 +343,12 @@ step_known {config} {past} (forgets {link = to} {id = id} o n has f t) legal cau
     put_known config past known legal caused (Forgets to id) (cause _ refl)
 step_known {config} {past} (plays_it {link = to} {entry = entry} o n has f t s) legal caused cause known =
     put_known config past known legal caused (Sends to (Plays entry)) (cause _ refl)
-step_known {config} {past} (sends {link = to} {command = command} {id = id} o n p s g f t d i) legal caused cause known =
+step_known {config} {past} (sends {link = to} {command = command} {id = id} o n p s g f t d i v) legal caused cause known =
     put_known config past known legal caused (Sends to (Asks command id)) (cause _ refl)
+step_known {config} {past} (waits_first {link = to} {gtid = gtid} o n p s g f t d v) legal caused cause known =
+    put_known config past known legal caused (Sends to (Waits gtid _)) (cause _ refl)
+step_known {config} {past} (probes_first {link = to} {gtid = gtid} o n p s g f t d v) legal caused cause known =
+    put_known config past known legal caused (Sends to (Probes gtid)) (cause _ refl)
 step_known {item = item} (floods o n p above) legal caused cause known =
     quiet item refl (λ link h. h) refl (λ link. refl) (λ command p. p) (λ link. refl) known
 step_known (reads o n due) legal caused cause known = due_known due legal known

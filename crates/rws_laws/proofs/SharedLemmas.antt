@@ -19,9 +19,9 @@ use Rattle.rws_commands.specs.declared.history.HistoryEntry.{HistoryEntry}
 use Rattle.rws_commands.specs.Statements.{answered_by, is_prepared, unplayed}
 use Rattle.rws_record.specs.Item.{Ending, Item, Purpose, Put, Tell}
 use Rattle.rws_record.specs.Item.Item.{Accepted, TurnsAway, Began, ClientBytes, LinkReady, LinkBytes, ClientGone, LinkLost, Ticks, Comes, Puts}
-use Rattle.rws_record.specs.Item.Purpose.{Prepares, Asks, Plays}
+use Rattle.rws_record.specs.Item.Purpose.{Prepares, Asks, Plays, Waits, Probes}
 use Rattle.rws_record.specs.Item.Recording.{Nothing, Accepts, Keeps}
-use Rattle.rws_record.specs.Item.Put.{Hands, Tells, Routes, Opens, LogsInto, Sends, Forgets, Drops, Closes}
+use Rattle.rws_record.specs.Item.Put.{Hands, Tells, Records, Routes, Opens, LogsInto, Sends, Forgets, Drops, Closes}
 use Rattle.rws_record.specs.Item.Tell.{Passes, Owns, Refuses}
 use Rattle.rws_record.specs.Values.{answered_in, asked_on, awaited, cursor, exchange, kind_of, linked, pending, played_by, sent_all, sent_for, sent_on, serials, statements}
 use Rattle.rws_record.specs.Record.{IsBeginning, IsInput, IsRecord}
@@ -31,7 +31,7 @@ use Rattle.rws_record.proofs.LinkedLemmas.{Says, after_part_is}
 use Rattle.rws_record.proofs.LinkedLemmas.Says.{answers, enters, hurries, fails, breaks, part, garbled, wrong, again}
 use Rattle.rws_record.proofs.StepLemmas.{Due, Step, of_next}
 use Rattle.rws_record.proofs.StepLemmas.Due.{comes, connects, takes}
-use Rattle.rws_record.proofs.StepLemmas.Step.{pays, asks, prepares, forgets, plays as plays_it, sends, floods, reads}
+use Rattle.rws_record.proofs.StepLemmas.Step.{pays, asks, prepares, forgets, plays as plays_it, sends, waits_first, probes_first, floods, reads}
 use Rattle.rws_laws.specs.Causes.{AreCaused, IsCaused}
 use Rattle.rws_laws.specs.History.{entry_led, set_on, with_played}
 use Rattle.rws_laws.specs.Laws.{OnlyPreparesLeave, PlaysInOrder, SetsBeforeItAsks, SetsInOrder}
@@ -127,6 +127,8 @@ part_stands e payload its number behind More asked owes none stands = goes_on ow
 part_stands e payload its number behind (Ends (Failed code)) asked owes none stands = goes_on owes stands
 part_stands e payload its number behind (Ends (Done status)) None owes none stands = goes_on owes stands
 part_stands e payload its number behind (Ends (Done status)) (Some Prepares) owes none stands = goes_on owes stands
+part_stands e payload its number behind (Ends (Done status)) (Some (Waits gtid seconds)) owes none stands = goes_on owes stands
+part_stands e payload its number behind (Ends (Done status)) (Some (Probes gtid)) owes none stands = goes_on owes stands
 part_stands e payload its number behind (Ends (Done status)) (Some (Asks command id)) owes none stands = goes_on owes stands
 part_stands e payload its number behind (Ends (Done status)) (Some (Plays entry)) owes none stands =
     played_on e entry owes (none (Done status) refl) stands
@@ -318,11 +320,14 @@ module _ (config : Config) (past : List Item) (shared : Shared config past) wher
 
   put_shared : (put : Put) → IsCaused config put past → Shared config (Puts put ∷ past)
   put_shared (Hands packets) cause = shared
+  put_shared (Records server gtid) cause = shared
   put_shared (Tells number tell) cause = tell_shared number tell cause
   put_shared Routes cause = shared
   put_shared (Opens opened server login) cause = open_shared opened server login cause.0.unsent
   put_shared (LogsInto to packets) cause = shared
   put_shared (Sends to Prepares) cause = own_shared to Prepares (λ entry q. absurd cc)
+  put_shared (Sends to (Waits gtid seconds)) cause = own_shared to (Waits gtid seconds) (λ entry q. absurd cc)
+  put_shared (Sends to (Probes gtid)) cause = own_shared to (Probes gtid) (λ entry q. absurd cc)
   put_shared (Sends to (Plays entry)) cause =
       own_shared to (Plays entry)
       (λ its q. let same : entry ≡ its = cc in subst (λ (x : HistoryEntry). unplayed (cursor to past) (statements config past) ≡ Some x) same cause.4)
@@ -347,8 +352,12 @@ step_shared {config} {past} (prepares {link = to} o n has f) cause shared = put_
 step_shared (forgets o n has f t) cause shared = shared
 step_shared {config} {past} (plays_it {link = to} {entry = entry} o n has f t s) cause shared =
     put_shared config past shared (Sends to (Plays entry)) (cause _ refl)
-step_shared {config} {past} (sends {link = to} {command = command} {id = id} o n p s g f t d i) cause shared =
+step_shared {config} {past} (sends {link = to} {command = command} {id = id} o n p s g f t d i v) cause shared =
     put_shared config past shared (Sends to (Asks command id)) (cause _ refl)
+step_shared {config} {past} (waits_first {link = to} {gtid = gtid} o n p s g f t d v) cause shared =
+    put_shared config past shared (Sends to (Waits gtid _)) (cause _ refl)
+step_shared {config} {past} (probes_first {link = to} {gtid = gtid} o n p s g f t d v) cause shared =
+    put_shared config past shared (Sends to (Probes gtid)) (cause _ refl)
 step_shared (floods o n p above) cause shared = shared
 step_shared (reads o n due) cause shared = due_shared due shared
 

@@ -4,6 +4,8 @@ use Rattle.std.specs.Prelude.{◌≢◌, ◌==◌}
 use Rattle.std.proofs.lemmas.Bool.{eqb-true, eq-eqb}
 use Rattle.rws_wire.specs.declared.close_reason.CloseReason.{CloseReason}
 use Rattle.rws_wire.specs.declared.drop_cause.DropCause.{DropCause}
+use Rattle.rws_gtid.specs.declared.Gtid.{Gtid}
+use Rattle.rws_routing.specs.declared.routing.Check.{Check}
 use Rattle.rws_native.specs.declared.login.Login.{Login}
 use Rattle.rws_reply.specs.Replies.{Payload}
 use Rattle.rws_reply.specs.ClientForm.{client_reply}
@@ -15,12 +17,13 @@ use Rattle.rws_link.specs.Stepping.{Exchange}
 use Rattle.rws_record.specs.Item.{Item, Purpose, Tell, Put}
 use Rattle.rws_record.specs.Item.Item.{Puts}
 use Rattle.rws_record.specs.Item.Tell.{Passes}
-use Rattle.rws_record.specs.Item.Put.{Hands, Tells, Opens, LogsInto, Drops, Closes}
+use Rattle.rws_record.specs.Item.Put.{Hands, Tells, Records, Opens, LogsInto, Drops, Closes}
 use Rattle.rws_record.specs.Item.Purpose.{Prepares, Asks, Plays}
 use Rattle.rws_record.specs.Values.{contains, goes_on, links, asked_on, exchange, is_up, pending, sent_on, reply_number, statements, told, told_from, is_over}
 use Rattle.rws_record.specs.Rules.{follow, is_link, is_loss, owed}
 use Rattle.rws_record.proofs.WantLemmas.{closes_soon}
 use Rattle.rws_laws.specs.Client.{Asked}
+use Rattle.rws_laws.specs.Servers.{asks_first}
 use Rattle.rws_laws.specs.Causes.{IsCaused, number_behind_all}
 
 -- What is owed has its cause; what stands behind the first has it once the first was given out. A link that is given up for a
@@ -40,6 +43,8 @@ pub data Caused (config : Config) : List Put → List Item → Type 0 where
       → Caused config (Opens link server login ∷ []) past
   logs_on : {link : ℕ} {packets : List ℕ} {past : List Item} → IsCaused config (LogsInto link packets) past
       → Caused config (LogsInto link packets ∷ []) past
+  records : {server : ℕ} {gtid : Gtid} {others : List Put} {past : List Item} → IsCaused config (Records server gtid) past
+      → Caused config others (Puts (Records server gtid) ∷ past) → Caused config (Records server gtid ∷ others) past
   -- with what follows it
   tells : {number : ℕ} {tell : Tell} {others : List Put} {past : List Item} → IsCaused config (Tells number tell) past
       → Caused config (follow config (Tells number tell) past ++ others) (Puts (Tells number tell) ∷ past)
@@ -54,6 +59,7 @@ first_caused (tells cause rest) = cause
 first_caused (hands cause rest) = cause
 first_caused (opens cause) = cause
 first_caused (logs_on cause) = cause
+first_caused (records cause rest) = cause
 
 -- a command that was sent is the client's, and went on the link that it is to go on, which was prepared and which the session has
 abbrev pub SentBy : Option Command → (sent goes : Option ℕ) → (up : ℕ → Bool) → (links : List ℕ) → Type 0
@@ -105,11 +111,12 @@ pub record AwaitedBy (link : ℕ) (e : Exchange) (asked : Option Purpose) (pendi
   pub sent_there : sent ≡ Some link
 
 -- a reply that is awaited on a link that the session has is that to the preamble, on a link that isn't prepared, that to an entry of the
--- history, or that to the pending command
+-- history, that to what goes before a read, or that to the pending command
 pub data WaitsOn (link : ℕ) (e : Exchange) (asked : Option Purpose) (up : Bool) (pending : Option Command) (sent : Option ℕ)
     (handle : ℕ) (told : List Payload) (owed : List Put) : Type 0 where
   prepares : asked ≡ Some Prepares → up ≡ false → WaitsOn link e asked up pending sent handle told owed
   repeats : {entry : HistoryEntry} → asked ≡ Some (Plays entry) → WaitsOn link e asked up pending sent handle told owed
+  checks : {check : Check} → asks_first asked ≡ Some check → WaitsOn link e asked up pending sent handle told owed
   replies : AwaitedBy link e asked pending sent handle told owed → WaitsOn link e asked up pending sent handle told owed
 
 abbrev pub WaitsBy : List ℕ → (ℕ → Option Exchange) → (ℕ → Option Purpose) → (ℕ → Bool) → Option Command → Option ℕ → (handle : ℕ) → List Payload → List Put

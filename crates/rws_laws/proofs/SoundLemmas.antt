@@ -1,10 +1,16 @@
 -- Each step of a legal record keeps it sound.
-use Rattle.std.proofs.Common.{◌≡◌, ℕ, ◌+◌, ◌<◌, Bool, true, false, List, [], ◌∷◌, length, refl, sym, ap, subst, ◌∙◌, arith, inl, inr, Option, Some, None}
+use Rattle.std.proofs.Common.{◌≡◌, ℕ, ◌+◌, ◌<◌, Bool, true, false, List, [], ◌∷◌, ◌++◌, length, refl, sym, ap, subst, ◌∙◌, arith, inl, inr, Option, Some, None}
 use Rattle.std.specs.Prelude.{Contains, ◌&&◌, ◌==◌, if◌then◌else◌}
 use Rattle.std.proofs.lemmas.Bool.{eqb-true, eq-eqb}
 use Rattle.rws_wire.specs.declared.drop_cause.DropCause.TheVariants.{BadWire, BadReply, Unasked, Greeting, Plugin, Login as LoginFails}
 use Rattle.rws_wire.specs.Payloads.{first_payload}
 use Rattle.rws_wire.specs.Payloads.Beginning.{Whole}
+use Rattle.rws_gtid.specs.declared.Gtid.{Gtid}
+use Rattle.rws_causal.specs.declared.causal.Causal.{Causal}
+use Rattle.rws_causal.specs.declared.causal.Causal.TheVariants.{Go, TryPrimary, Wait as WaitsFirst, Probe as ProbesFirst, Stale, Unreadable}
+use Rattle.rws_routing.specs.declared.routing.Check.{Check}
+use Rattle.rws_routing.specs.declared.routing.Check.TheVariants.{Wait, Probe}
+use Rattle.rws_reply.specs.declared.kind.Kind.TheVariants.{Query as QueryReply}
 use Rattle.rws_pool.specs.declared.words.PoolWords.{PoolWords}
 use Rattle.rws_select.specs.declared.selector.Load.{Load}
 use Rattle.rws_route.specs.declared.destination.Target.{Target}
@@ -34,10 +40,10 @@ use Rattle.rws_commands.specs.declared.history.PreparedAs.{PreparedAs}
 use Rattle.rws_commands.specs.Statements.{Statements, is_otherwise, next_handle, played}
 use Rattle.rws_record.specs.Item.{Item, Purpose, Put}
 use Rattle.rws_record.specs.Item.Item.{Accepted, TurnsAway, Began, ClientBytes, LinkReady, LinkBytes, ClientGone, LinkLost, Ticks, Routed, Comes, Connects, Floods, Puts}
-use Rattle.rws_record.specs.Item.Purpose.{Prepares, Asks, Plays}
-use Rattle.rws_record.specs.Item.Put.{Routes, Drops}
-use Rattle.rws_record.specs.Values.{ends_transaction, heard_on, named_in, named_on, statements, fronted, goes_on, held, login_of, link_to, links, contains, now, reply_number, routing, asked_on, awaited, exchange, is_up, kind_of, linked, link_held, unread, pending, sent_on, told, is_over, is_starved, pinned}
-use Rattle.rws_record.specs.Rules.{after_loss, after_connecting, after_flood, after_played, after_preparing, differing, flood_limit, found_in, drop_cause, farewells, is_free, is_ready, is_same, owed, unasked}
+use Rattle.rws_record.specs.Item.Purpose.{Prepares, Asks, Plays, Waits, Probes}
+use Rattle.rws_record.specs.Item.Put.{Routes, Forgets, Sends, Drops}
+use Rattle.rws_record.specs.Values.{checked_on, server_of, ends_transaction, heard_on, named_in, named_on, statements, fronted, goes_on, held, login_of, link_to, links, contains, now, reply_number, routing, asked_on, awaited, exchange, is_up, kind_of, linked, link_held, unread, pending, sent_on, told, is_over, is_starved, pinned}
+use Rattle.rws_record.specs.Rules.{after_check, commit_by, recording_commit, after_loss, after_connecting, after_flood, after_played, after_preparing, differing, flood_limit, found_in, drop_cause, farewells, is_free, is_ready, is_same, owed, unasked}
 use Rattle.rws_record.specs.Record.{IsBeginning, IsRecord, IsInput}
 use Rattle.rws_record.specs.Record.IsRecord.{begins, steps, answers as answered, hears, starves}
 use Rattle.rws_record.proofs.LinkedLemmas.{Says, awaits_asked}
@@ -45,11 +51,11 @@ use Rattle.rws_record.proofs.LinkedLemmas.Says.{answers, enters, hurries, fails,
 use Rattle.rws_record.proofs.StepLemmas.{Due, Step, of_next, rests_owing_nothing}
 use Rattle.rws_record.proofs.WantLemmas.{input_starved, step_starved}
 use Rattle.rws_record.proofs.StepLemmas.Due.{comes, connects, takes}
-use Rattle.rws_record.proofs.StepLemmas.Step.{pays, asks, prepares as prepares_it, forgets, plays, sends, floods, reads}
+use Rattle.rws_record.proofs.StepLemmas.Step.{pays, asks, prepares as prepares_it, forgets, plays, sends, waits_first, probes_first, floods, reads}
 use Rattle.rws_record.proofs.OpeningLemmas.{asks_owing_nothing}
 use Rattle.rws_laws.specs.Client.{Flooded, IsSaid}
 use Rattle.rws_laws.specs.Client.Flooded.{flooded}
-use Rattle.rws_laws.specs.Servers.{LoginCame, LoginFailed}
+use Rattle.rws_laws.specs.Servers.{LoginCame, LoginFailed, asks_first}
 use Rattle.rws_laws.specs.Servers.LoginFailed.{no_greeting, not_served, error_came, other_plugin, no_answer, bad_question}
 use Rattle.rws_laws.specs.Servers.LogsOn.{logs_on as logs_so}
 use Rattle.rws_laws.specs.Servers.NotEntered.{not_entered}
@@ -64,16 +70,19 @@ use Rattle.rws_laws.proofs.FrontLemmas.{front_says, said_so, steady, taken_so}
 use Rattle.rws_laws.proofs.HandshakeLemmas.{answers_so, fails_so, takes_so}
 use Rattle.rws_laws.proofs.CameLemmas.{Came, after_answer_is, after_entering_is, bytes_keep, legal_came, loss_leaves, ready_keeps}
 use Rattle.rws_laws.proofs.LostLemmas.{AreUnasked, its_login, legal_unasked, was_unasked}
-use Rattle.rws_laws.proofs.Sound.{Caused, handle, passed, AwaitedBy, WaitsOn, Sound, not_soon, same_some}
-use Rattle.rws_laws.proofs.Sound.WaitsOn.{prepares, repeats, replies}
+use Rattle.rws_laws.proofs.Sound.{Caused, first_caused, handle, passed, AwaitedBy, WaitsOn, Sound, not_soon, same_some}
+use Rattle.rws_laws.proofs.Sound.WaitsOn.{prepares, repeats, checks, replies}
 use Rattle.rws_laws.proofs.Sound.Caused.{nothing, drops, logs_on}
 use Rattle.rws_laws.proofs.Sound.ToldBy.{none_told}
 use Rattle.rws_laws.proofs.LinksLemmas.{cut_closes, farewells_caused}
 use Rattle.rws_laws.proofs.ListLemmas.{has_it}
 use Rattle.rws_laws.proofs.RoutedLemmas.{route_caused}
-use Rattle.rws_laws.proofs.ReplyLemmas.{passes_same, route_passes, still_asked, owes_same, lost_passes, farewells_pass, told_without, without_sent, without_waits}
-use Rattle.rws_laws.proofs.OwedLemmas.{Arrived, leaves, loss_caused, flood_caused, misprepared_caused, preparing_caused, misplayed_caused, playing_caused, said_caused, turning_caused, CameNext, said, wrong_caused}
-use Rattle.rws_laws.proofs.GivenLemmas.{clean, coming_sent, forgets_sound, prepares_sound, plays_sound, put_sound, ready_sent, reply_sound, routes_sound, send_sound, take_sound}
+use Rattle.rws_laws.proofs.ReplyLemmas.{passes_same, recording_passes, route_passes, still_asked, owes_same, lost_passes, farewells_pass, told_without, without_sent, without_waits}
+use Rattle.rws_laws.proofs.CheckLemmas.{Checking, Heard, checking_on, part_heard, put_keeps, unchecked}
+use Rattle.rws_laws.proofs.CheckLemmas.Heard.{no_check}
+use Rattle.rws_laws.proofs.CheckedLemmas.{mischecked_caused, probing_caused, waiting_caused}
+use Rattle.rws_laws.proofs.OwedLemmas.{Arrived, StillCaused, with_commit, leaves, loss_caused, flood_caused, misprepared_caused, preparing_caused, misplayed_caused, playing_caused, said_caused, turning_caused, CameNext, said, wrong_caused}
+use Rattle.rws_laws.proofs.GivenLemmas.{clean, coming_sent, forgets_sound, prepares_sound, plays_sound, put_sound, ready_sent, reply_sound, routes_sound, send_sound, take_sound, waits_sound, probes_sound}
 
 -- where a link is free
 both_hold : (a b : Bool) → (a && b) ≡ true → (a ≡ true) × (b ≡ true)
@@ -103,6 +112,8 @@ not_up false e = refl
 abbrev is_own : Purpose → Bool
 is_own Prepares = true
 is_own (Plays entry) = true
+is_own (Waits gtid seconds) = true
+is_own (Probes gtid) = true
 is_own (Asks command id) = false
 
 -- the preamble's reply passes nothing
@@ -125,6 +136,16 @@ played_passes link entry named More behind = refl
 played_passes link entry named (Ends (Done status)) behind = differing_passes link (is_otherwise entry.statement named) behind
 played_passes link entry named (Ends (Failed code)) behind = refl
 
+-- and so does that to what goes before a read
+checked_passes : (link : ℕ) (checked : Option Causal) (behind : Bool) (number : ℕ) → passed (after_check link checked behind number) ≡ []
+checked_passes link None behind number = refl
+checked_passes link (Some Go) behind number = unasked_passes link behind
+checked_passes link (Some TryPrimary) behind number = unasked_passes link behind
+checked_passes link (Some (WaitsFirst gtid)) behind number = unasked_passes link behind
+checked_passes link (Some (ProbesFirst gtid)) behind number = unasked_passes link behind
+checked_passes link (Some (Stale wanted found)) behind number = unasked_passes link behind
+checked_passes link (Some Unreadable) behind number = refl
+
 -- an entry that is played prepares a statement that the client knows already
 played_names : (link serial : ℕ) (how : Option PreparedAs) (named : Option PrepareOk) (s : Statements)
     → next_handle (played link serial how named s) ≡ next_handle s
@@ -139,6 +160,8 @@ own_names link (steps.Part payload its (Ends (Done status)) number behind) (Play
     played_names link entry.serial entry.statement (named_in its payload named) s
 own_names link (steps.Part payload its (Ends (Failed code)) number behind) (Plays entry) ends named s own = refl
 own_names link (steps.Part payload its (Ends outcome) number behind) Prepares ends named s own = refl
+own_names link (steps.Part payload its (Ends outcome) number behind) (Waits gtid seconds) ends named s own = refl
+own_names link (steps.Part payload its (Ends outcome) number behind) (Probes gtid) ends named s own = refl
 own_names link (steps.Part payload its (Ends outcome) number behind) (Asks command id) ends named s own = absurd cc
 own_names link (steps.Part payload its More number behind) purpose ends named s own = refl
 own_names link (steps.Lost cause) purpose ends named s own = refl
@@ -154,7 +177,7 @@ connecting_passes (fronts.Command payload) = refl
 connecting_passes fronts.Idle = refl
 
 module _ (config : Config) (past : List Item) (sound : Sound config past) (came : Came past) (unasked : AreUnasked past) (entering : IsEntering config past)
-    (o : owed config past ≡ []) (n : is_over past ≡ false) where
+    (checking : Checking config past) (o : owed config past ≡ []) (n : is_over past ≡ false) where
   -- What a link says
 
   still_waits : (link : ℕ) (said : LinkStep) (owes : List Put) → passed owes ≡ [] → handle config (Comes link said ∷ past) ≡ handle config past
@@ -165,10 +188,10 @@ module _ (config : Config) (past : List Item) (sound : Sound config past) (came 
       rw (t, names) (passes_same (owed config past) owes (ap passed o ∙ sym passes) (sound.waits other x has a))
 
   -- one that owes no reply then, and for which nothing is passed on
-  silent_sound : (link : ℕ) (said : LinkStep) → awaited (step (linked link past)).after ≡ None → passed (owed config (Comes link said ∷ past)) ≡ []
+  silent_sound : (link : ℕ) (said : LinkStep) → Heard link said past → awaited (step (linked link past)).after ≡ None → passed (owed config (Comes link said ∷ past)) ≡ []
       → handle config (Comes link said ∷ past) ≡ handle config past → Caused config (owed config (Comes link said ∷ past)) (Comes link said ∷ past) → Sound config (Comes link said ∷ past)
-  silent_sound link said none passes names owes = record {
-    sent = coming_sent config past link said sound.sent;
+  silent_sound link said it none passes names owes = record {
+    sent = coming_sent config past link said (unchecked checking it) sound.sent;
     telling = λ n soon. sound.telling n (not_soon o);
     asks = still_asked refl refl refl sound.asks;
     waits = λ other x has a. by_link other x (link == other) refl has a;
@@ -188,7 +211,7 @@ module _ (config : Config) (past : List Item) (sound : Sound config past) (came 
   loses_it : (link : ℕ) (cause : LinkCause) → Says (linked link past) (steps.Lost cause)
       → Caused config (Drops link (drop_cause cause) ∷ []) (Comes link (steps.Lost cause) ∷ past) → Sound config (Comes link (steps.Lost cause) ∷ past)
   loses_it link cause it owes =
-      silent_sound link (steps.Lost cause) (loss_leaves (linked link past) (steps.Lost cause) cause it refl) refl refl owes
+      silent_sound link (steps.Lost cause) (no_check refl) (loss_leaves (linked link past) (steps.Lost cause) cause it refl) refl refl owes
 
   -- it then owes no reply
   lost_owes : (link : ℕ) (cause : LinkCause) → Says (linked link past) (steps.Lost cause) → exchange link (Comes link (steps.Lost cause) ∷ past) ≡ None
@@ -246,13 +269,16 @@ module _ (config : Config) (past : List Item) (sound : Sound config past) (came 
 
     -- of which nothing is passed on
     module _ (purpose : Purpose) (asked : asked_on link past ≡ Some purpose) (own : is_own purpose ≡ true) (answer : Role → Progress → List Put)
-        (owed_then : (its : Role) (far : Progress) → owed config (Comes link (the_said its far) ∷ past) ≡ answer its far)
+        (owed_then : (its : Role) (far : Progress) → owed config (Comes link (the_said its far) ∷ past)
+        ≡ recording_commit (server_of link past) (commit_by config.gtid_domain its payload (Some purpose)) ++ answer its far)
         (passes : (its : Role) (far : Progress) → passed (answer its far) ≡ [])
         (caused : (its : Role) (far : Progress) → role e.kind e.sofar payload ≡ Some its → progress e.kind e.sofar payload ≡ Some far
-        → Caused config (answer its far) (Comes link (the_said its far) ∷ past))
+        → StillCaused config (answer its far) (Comes link (the_said its far) ∷ past))
         (goes_on_waiting : (its : Role) (other : ℕ) (x : Exchange) (owes : List Put) → link ≡ other → WaitsThen its other x owes) where
       on_passes : (its : Role) (far : Progress) → passed (owed config (Comes link (the_said its far) ∷ past)) ≡ []
-      on_passes its far = ap passed (owed_then its far) ∙ passes its far
+      on_passes its far =
+          ap passed (owed_then its far)
+          ∙ recording_passes (server_of link past) (commit_by config.gtid_domain its payload (Some purpose)) (answer its far) ∙ passes its far
 
       on_names : (its : Role) (far : Progress) → handle config (Comes link (the_said its far) ∷ past) ≡ handle config past
       on_names its far =
@@ -261,7 +287,14 @@ module _ (config : Config) (past : List Item) (sound : Sound config past) (came 
       on_owes : (its : Role) (far : Progress) → role e.kind e.sofar payload ≡ Some its → progress e.kind e.sofar payload ≡ Some far
           → Caused config (owed config (Comes link (the_said its far) ∷ past)) (Comes link (the_said its far) ∷ past)
       on_owes its far r p =
-          subst (λ (list : List Put). Caused config list (Comes link (the_said its far) ∷ past)) (sym (owed_then its far)) (caused its far r p)
+          subst (λ (list : List Put). Caused config list (Comes link (the_said its far) ∷ past)) (sym (owed_then its far))
+          (with_commit config past link payload its far number (is_some_byte rest) arrived.has purpose asked (answer its far) (caused its far r p))
+
+      on_heard : (its : Role) (far : Progress) → role e.kind e.sofar payload ≡ Some its → progress e.kind e.sofar payload ≡ Some far
+          → Heard link (the_said its far) past
+      on_heard its far r p =
+          part_heard past link e (link_held link past) payload rest number its far (is_some_byte rest) (has_it (links past) link arrived.has) arrived.state
+          arrived.begins r p
 
       more_waits : (its : Role) (other : ℕ) (x : Exchange) (same : Bool) → (link == other) ≡ same → contains other (links past) ≡ true
           → awaited (if same then (step (linked other past)).after else linked other past) ≡ Some x
@@ -277,9 +310,9 @@ module _ (config : Config) (past : List Item) (sound : Sound config past) (came 
           let itself : (link == link) ≡ true = eq-eqb link link refl in
           let none : awaited (step (linked link past)).after ≡ None =
           rw itself at (leaves past link e payload rest number arrived its (Ends outcome) r p) in
-          silent_sound link (the_said its (Ends outcome)) none (on_passes its (Ends outcome)) (on_names its (Ends outcome)) (on_owes its (Ends outcome) r p)
+          silent_sound link (the_said its (Ends outcome)) (on_heard its (Ends outcome) r p) none (on_passes its (Ends outcome)) (on_names its (Ends outcome)) (on_owes its (Ends outcome) r p)
       own_sound its More r p = record {
-        sent = coming_sent config past link (the_said its More) sound.sent;
+        sent = coming_sent config past link (the_said its More) (unchecked checking (on_heard its More r p)) sound.sent;
         telling = λ n soon. sound.telling n (not_soon o);
         asks = still_asked refl refl refl sound.asks;
         waits = λ other x has a. more_waits its other x (link == other) refl has a;
@@ -304,6 +337,44 @@ module _ (config : Config) (past : List Item) (sound : Sound config past) (came 
         (playing_caused config past link e payload rest number arrived entry (its_kind (Plays entry) asked) asked)
         (λ its other x owes same. repeats {entry = entry} (subst (λ (l : ℕ). asked_on l past ≡ Some (Plays entry)) same asked))
 
+    waited_sound : (gtid : Gtid) (seconds : ℕ) → asked_on link past ≡ Some (Waits gtid seconds) → (its : Role) (far : Progress)
+        → role e.kind e.sofar payload ≡ Some its → progress e.kind e.sofar payload ≡ Some far → Sound config (Comes link (the_said its far) ∷ past)
+    waited_sound gtid seconds asked =
+        own_sound (Waits gtid seconds) asked refl
+        (λ its far. after_check link (checked_on link (the_said its far) past) (is_some_byte rest) (reply_number past)) (λ its far. rw asked refl)
+        (λ its far. checked_passes link (checked_on link (the_said its far) past) (is_some_byte rest) (reply_number past))
+        (waiting_caused config past link e payload rest number arrived (its_kind (Waits gtid seconds) asked) gtid seconds asked)
+        (λ its other x owes same. checks {check = Wait gtid} (ap asks_first (subst (λ (l : ℕ). asked_on l past ≡ Some (Waits gtid seconds)) same asked)))
+
+    probed_sound : (gtid : Gtid) → asked_on link past ≡ Some (Probes gtid) → (its : Role) (far : Progress)
+        → role e.kind e.sofar payload ≡ Some its → progress e.kind e.sofar payload ≡ Some far → Sound config (Comes link (the_said its far) ∷ past)
+    probed_sound gtid asked =
+        let pending = checking link e (Probe gtid) (has_it (links past) link arrived.has) arrived.owes (ap asks_first asked) in
+        own_sound (Probes gtid) asked refl
+        (λ its far. after_check link (checked_on link (the_said its far) past) (is_some_byte rest) (reply_number past)) (λ its far. rw asked refl)
+        (λ its far. checked_passes link (checked_on link (the_said its far) past) (is_some_byte rest) (reply_number past))
+        (probing_caused config past link e payload rest number arrived (its_kind (Probes gtid) asked) gtid asked pending
+        (sound.asks pending.command pending.waits) (sound.telling n (not_soon o)))
+        (λ its other x owes same. checks {check = Probe gtid} (ap asks_first (subst (λ (l : ℕ). asked_on l past ≡ Some (Probes gtid)) same asked)))
+
+    checked_sound : (check : Check) (asked : Option Purpose) → asked_on link past ≡ asked → asks_first asked ≡ Some check → (its : Role) (far : Progress)
+        → role e.kind e.sofar payload ≡ Some its → progress e.kind e.sofar payload ≡ Some far → Sound config (Comes link (the_said its far) ∷ past)
+    checked_sound check (Some (Waits gtid seconds)) asked q = waited_sound gtid seconds asked
+    checked_sound check (Some (Probes gtid)) asked q = probed_sound gtid asked
+    checked_sound check (Some Prepares) asked q = absurd cc
+    checked_sound check (Some (Asks command id)) asked q = absurd cc
+    checked_sound check (Some (Plays entry)) asked q = absurd cc
+    checked_sound check None asked q = absurd cc
+
+    -- of whichever it is, the reply is that to a query
+    checked_kind : (check : Check) (asked : Option Purpose) → asked_on link past ≡ asked → asks_first asked ≡ Some check → e.kind ≡ QueryReply
+    checked_kind check (Some (Waits gtid seconds)) asked q = its_kind (Waits gtid seconds) asked
+    checked_kind check (Some (Probes gtid)) asked q = its_kind (Probes gtid) asked
+    checked_kind check (Some Prepares) asked q = absurd cc
+    checked_kind check (Some (Asks command id)) asked q = absurd cc
+    checked_kind check (Some (Plays entry)) asked q = absurd cc
+    checked_kind check None asked q = absurd cc
+
   -- its login failed
   failed_sound : (link : ℕ) (handshake : Handshake) (payload rest : Payload) (number : ℕ) (cause : LinkCause)
       → LoginCame link handshake payload number rest past → LoginFailed payload handshake cause → Contains (links past) link
@@ -317,9 +388,9 @@ module _ (config : Config) (past : List Item) (sound : Sound config past) (came 
   failed_sound link handshake payload rest number cause login (other_plugin p s) has =
       drops {link = link} {cause = Plugin} n (not_entered login (other_plugin p s), has)
   failed_sound link handshake payload rest number cause login (no_answer e k p) has =
-      drops {link = link} {cause = BadReply} n (inr (inr (inr (not_entered login (no_answer e k p)))), has)
+      drops {link = link} {cause = BadReply} n (inr (inr (inr (inr (not_entered login (no_answer e k p))))), has)
   failed_sound link handshake payload rest number cause login (bad_question e k s) has =
-      drops {link = link} {cause = BadReply} n (inr (inr (inr (not_entered login (bad_question e k s)))), has)
+      drops {link = link} {cause = BadReply} n (inr (inr (inr (inr (not_entered login (bad_question e k s))))), has)
 
   -- a payload of a reply
   part_sound : (link : ℕ) (e : Exchange) (payload rest : Payload) (number : ℕ) (its : Role) (far : Progress)
@@ -330,6 +401,8 @@ module _ (config : Config) (past : List Item) (sound : Sound config past) (came 
       prepared_sound link e payload rest number arrived asked up its far r p
   part_sound link e payload rest number its far arrived r p (repeats {entry = entry} asked) =
       played_sound link e payload rest number arrived entry asked its far r p
+  part_sound link e payload rest number its far arrived r p (checks {check = check} q) =
+      checked_sound link e payload rest number arrived check (asked_on link past) refl q its far r p
   part_sound link e payload rest number its far arrived r p (replies awaits) =
       reply_sound config past sound link e awaits.command payload rest number o (came_next link e payload rest number arrived awaits) its far r p
 
@@ -341,6 +414,8 @@ module _ (config : Config) (past : List Item) (sound : Sound config past) (came 
       misprepared_caused config past link e payload rest number arrived (its_kind link e payload rest number arrived Prepares asked) asked p
   wrong_owes link e payload rest number arrived p (repeats {entry = entry} asked) =
       misplayed_caused config past link e payload rest number arrived entry (its_kind link e payload rest number arrived (Plays entry) asked) asked p
+  wrong_owes link e payload rest number arrived p (checks {check = check} q) =
+      mischecked_caused config past link e payload rest number arrived (checked_kind link e payload rest number arrived check (asked_on link past) refl q) check q p
   wrong_owes link e payload rest number arrived p (replies awaits) =
       wrong_caused config past link e awaits.command payload rest number (came_next link e payload rest number arrived awaits) p
 
@@ -348,10 +423,10 @@ module _ (config : Config) (past : List Item) (sound : Sound config past) (came 
       → Sound config (Comes link said ∷ past)
   coming_sound link state said is has (answers {handshake = handshake} {unread = bytes} {payload = payload} {rest = rest} {bytes = packets} {number = number} {next = next} {stage1 = stage1} f r) =
       let login = its_login past link said handshake bytes is f in
-      silent_sound link (steps.Send packets) (rw is (ap awaited (after_answer_is handshake bytes f r))) refl refl
+      silent_sound link (steps.Send packets) (no_check refl) (rw is (ap awaited (after_answer_is handshake bytes f r))) refl refl
       (logs_on (logs_so login (answers_so handshake payload packets number next stage1 r), has))
   coming_sound link state said is has (enters {handshake = handshake} {unread = bytes} f r) =
-      silent_sound link steps.LoggedIn (rw is (ap awaited (after_entering_is handshake bytes f r))) refl refl nothing
+      silent_sound link steps.LoggedIn (no_check refl) (rw is (ap awaited (after_entering_is handshake bytes f r))) refl refl nothing
   coming_sound link state said is has (hurries {handshake = handshake} {unread = bytes} {payload = payload} {number = number} f r) =
       let it : Says (linked link past) (steps.Lost losses.Unasked) = rw is (hurries f r) in
       loses_it link losses.Unasked it
@@ -513,20 +588,81 @@ flood_sound {config} {past} o p above sound =
     }
 
 step_sound : {config : Config} {past : List Item} {item : Item} → Step config past item → Came past
-    → (owed config past ≡ [] → AreUnasked past) → Entering config past → Sound config past → Sound config (item ∷ past)
-step_sound {config} {past} (pays {put = put} {others = others} o) came unasked entering sound =
+    → (owed config past ≡ [] → AreUnasked past) → Entering config past → Checking config past → Sound config past → Sound config (item ∷ past)
+step_sound {config} {past} (pays {put = put} {others = others} o) came unasked entering checking sound =
     put_sound config past sound put others o (subst (λ (list : List Put). Caused config list past) o sound.owes)
-step_sound {config} {past} (asks o n p g w) came unasked entering sound = routes_sound config past sound o
-step_sound {config} {past} (prepares_it {link = link} o n has c) came unasked entering sound =
+step_sound {config} {past} (asks o n p g w) came unasked entering checking sound = routes_sound config past sound o
+step_sound {config} {past} (prepares_it {link = link} o n has c) came unasked entering checking sound =
     prepares_sound config past sound link o (not_up (is_up link past) (freed false link past c).1)
-step_sound {config} {past} (plays {link = link} {entry = entry} o n has f t s) came unasked entering sound =
+step_sound {config} {past} (plays {link = link} {entry = entry} o n has f t s) came unasked entering checking sound =
     plays_sound config past sound link entry o
-step_sound {config} {past} (sends {link = link} {command = command} {id = id} o n p s g f t d i) came unasked entering sound =
+step_sound {config} {past} (sends {link = link} {command = command} {id = id} o n p s g f t d i v) came unasked entering checking sound =
     let free = freed true link past f in send_sound config past sound link command id o n p s g free.1 free.0
-step_sound {config} {past} (forgets {link = link} {id = id} o n has f t) came unasked entering sound = forgets_sound config past sound link id o
-step_sound (floods o n p above) came unasked entering sound = flood_sound o p above sound
-step_sound {config} {past} (reads o n due) came unasked entering sound =
-    due_sound config past sound came (unasked o) (is_entering o n entering) o n due
+step_sound {config} {past} (waits_first {link = link} {gtid = gtid} o n p s g f t d v) came unasked entering checking sound =
+    waits_sound config past sound link gtid config.causal_timeout_s o
+step_sound {config} {past} (probes_first {link = link} {gtid = gtid} o n p s g f t d v) came unasked entering checking sound =
+    probes_sound config past sound link gtid o
+step_sound {config} {past} (forgets {link = link} {id = id} o n has f t) came unasked entering checking sound = forgets_sound config past sound link id o
+step_sound (floods o n p above) came unasked entering checking sound = flood_sound o p above sound
+step_sound {config} {past} (reads o n due) came unasked entering checking sound =
+    due_sound config past sound came (unasked o) (is_entering o n entering) checking o n due
+
+-- and keeps what is known of what goes before a read
+
+said_heard : {past : List Item} {link : ℕ} (state : LinkState) (spoken : LinkStep) → linked link past ≡ state → Contains (links past) link → Says state spoken
+    → Heard link spoken past
+said_heard {past} {link} state spoken is has (part {e = e} {unread = bytes} {payload = payload} {rest = rest} {number = number} {its = its} {far = far} f r p) =
+    part_heard past link e bytes payload rest number its far _ (has_it (links past) link has) is f r p
+said_heard state spoken is has (answers f r) = no_check refl
+said_heard state spoken is has (enters f r) = no_check refl
+said_heard state spoken is has (hurries f r) = no_check refl
+said_heard state spoken is has (fails f r) = no_check refl
+said_heard state spoken is has (breaks f) = no_check refl
+said_heard state spoken is has (garbled f) = no_check refl
+said_heard state spoken is has (wrong f p) = no_check refl
+said_heard state spoken is has again = no_check refl
+
+step_checking : {config : Config} {past : List Item} {item : Item} → Step config past item → Sound config past → Checking config past
+    → Checking config (item ∷ past)
+step_checking {config} {past} (pays {put = put} o) sound checking =
+    checking_on config past (Puts put) (put_keeps config past put (first_caused (subst (λ (list : List Put). Caused config list past) o sound.owes))) checking
+step_checking {config} {past} (asks o n p g w) sound checking = checking_on config past (Puts Routes) tt checking
+step_checking {config} {past} (prepares_it {link = link} o n has c) sound checking = checking_on config past (Puts (Sends link Prepares)) tt checking
+step_checking {config} {past} (forgets {link = link} {id = id} o n has f t) sound checking = checking_on config past (Puts (Forgets link id)) tt checking
+step_checking {config} {past} (plays {link = link} {entry = entry} o n has f t s) sound checking =
+    checking_on config past (Puts (Sends link (Plays entry))) tt checking
+step_checking {config} {past} (sends {link = link} {command = command} {id = id} o n p s g f t d i v) sound checking =
+    checking_on config past (Puts (Sends link (Asks command id))) v checking
+step_checking {config} {past} (waits_first {link = link} {command = command} {gtid = gtid} o n p s g f t d v) sound checking =
+    checking_on config past (Puts (Sends link (Waits gtid config.causal_timeout_s)))
+    (record { command = command; waits = p; unsent = s; goes = g; for_it = v }) checking
+step_checking {config} {past} (probes_first {link = link} {command = command} {gtid = gtid} o n p s g f t d v) sound checking =
+    checking_on config past (Puts (Sends link (Probes gtid))) (record { command = command; waits = p; unsent = s; goes = g; for_it = v }) checking
+step_checking {config} {past} (floods o n p above) sound checking = checking_on config past (Floods (flood_limit config + 1)) tt checking
+step_checking {config} {past} (reads o n (comes {link = link} {said = said} has a it)) sound checking =
+    checking_on config past (Comes link said) (said_heard (linked link past) said refl has it) checking
+step_checking {config} {past} (reads o n (connects {said = said} p f c)) sound checking = checking_on config past (Connects said) tt checking
+step_checking {config} {past} {item} (reads o n (takes p f)) sound checking = checking_on config past item p checking
+
+input_checking : (config : Config) (past : List Item) (item : Item) → IsInput item past → Checking config past → Checking config (item ∷ past)
+input_checking config past (ClientBytes bytes) input checking = checking_on config past (ClientBytes bytes) tt checking
+input_checking config past (LinkReady ready) input checking = checking_on config past (LinkReady ready) tt checking
+input_checking config past (LinkBytes from bytes) input checking = checking_on config past (LinkBytes from bytes) tt checking
+input_checking config past ClientGone input checking = checking_on config past ClientGone tt checking
+input_checking config past (LinkLost gone) input checking = checking_on config past (LinkLost gone) tt checking
+input_checking config past (Ticks reading) input checking = checking_on config past (Ticks reading) tt checking
+input_checking config past _ input checking = absurd input
+
+answer_checking : (config : Config) (words : PoolWords) (loads : List Load) (next : ℕ) (found : Target) {past : List Item} → AskedNow config past
+    → Checking config past → Checking config (Routed words loads next found ∷ past)
+answer_checking config words loads next found (asked_now {past = past} legal o n p g w) checking =
+    checking_on config (Puts Routes ∷ past) (Routed words loads next found) g checking
+
+begins_checking : (config : Config) (item : Item) → IsBeginning item → Checking config (item ∷ [])
+begins_checking config (Accepted session scramble reading) its = λ link e check has a asked. absurd cc
+begins_checking config (TurnsAway told) its = λ link e check has a asked. absurd cc
+begins_checking config (Began link server reading) its = λ link e check has a asked. absurd cc
+begins_checking config _ its = absurd its
 
 begun_sound : (config : Config) (link server reading : ℕ) → Sound config (Began link server reading ∷ [])
 begun_sound config link server reading = record {
@@ -560,15 +696,27 @@ begins_sound config (Began link server reading) its = begun_sound config link se
 begins_sound config _ its = absurd its
 
 -- until memory is wanting
-pub legal_sound : {config : Config} {past : List Item} → IsRecord config past → is_starved past ≡ false → Sound config past
-legal_sound {config} (begins {item = item} its) fed = begins_sound config item its
-legal_sound {config} (steps {past = past} {item = item} legal e) fed =
+legal_both : {config : Config} {past : List Item} → IsRecord config past → is_starved past ≡ false → Sound config past × Checking config past
+legal_both {config} (begins {item = item} its) fed = (begins_sound config item its, begins_checking config item its)
+legal_both {config} (steps {past = past} {item = item} legal e) fed =
     let step = of_next config past item e in
     let before = sym (step_starved step) ∙ fed in
-    step_sound step (legal_came legal) (legal_unasked legal before) (legal_entering legal) (legal_sound legal before)
-legal_sound {config} (answered {past = past} {words = words} {loads = loads} {next_link = next} legal asked) fed =
-    answer_sound config words loads next (found_in config past words loads) (legal_asked legal asked) (legal_sound legal fed)
-    (asks_owing_nothing legal asked)
-legal_sound {config} (hears {past = past} {item = item} legal rests none n input) fed =
-    input_sound config past (legal_sound legal (sym (input_starved past item input) ∙ fed)) (rests_owing_nothing config past rests none) n item input
-legal_sound (starves legal once can its) fed = absurd cc
+    let both = legal_both legal before in (
+      step_sound step (legal_came legal) (legal_unasked legal before) (legal_entering legal) both.1 both.0,
+      step_checking step both.0 both.1,
+    )
+legal_both {config} (answered {past = past} {words = words} {loads = loads} {next_link = next} legal asked) fed =
+    let both = legal_both legal fed in (
+      answer_sound config words loads next (found_in config past words loads) (legal_asked legal asked) both.0 (asks_owing_nothing legal asked),
+      answer_checking config words loads next (found_in config past words loads) (legal_asked legal asked) both.1,
+    )
+legal_both {config} (hears {past = past} {item = item} legal rests none n input) fed =
+    let both = legal_both legal (sym (input_starved past item input) ∙ fed) in
+    (input_sound config past both.0 (rests_owing_nothing config past rests none) n item input, input_checking config past item input both.1)
+legal_both (starves legal once can its) fed = absurd cc
+
+pub legal_sound : {config : Config} {past : List Item} → IsRecord config past → is_starved past ≡ false → Sound config past
+legal_sound legal fed = (legal_both legal fed).0
+
+pub legal_checking : {config : Config} {past : List Item} → IsRecord config past → is_starved past ≡ false → Checking config past
+legal_checking legal fed = (legal_both legal fed).1

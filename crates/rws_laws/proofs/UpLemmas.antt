@@ -8,8 +8,8 @@ use Rattle.rws_link.specs.declared.step.LinkStep.{LinkStep}
 use Rattle.rws_link.specs.Stepping.{LinkState, LogsIn, Rests, Awaits, IsLost, Exchange, behind_part, fed, is_new, opened as opening, readied, settled, step, with_part}
 use Rattle.rws_record.specs.Item.{Item, Purpose, Put}
 use Rattle.rws_record.specs.Item.Item.{Accepted, TurnsAway, Began, ClientBytes, LinkReady, LinkBytes, ClientGone, LinkLost, Ticks, Comes, Puts}
-use Rattle.rws_record.specs.Item.Put.{Hands, Tells, Routes, Opens, LogsInto, Sends, Forgets, Drops, Closes}
-use Rattle.rws_record.specs.Item.Purpose.{Prepares, Asks, Plays}
+use Rattle.rws_record.specs.Item.Put.{Hands, Tells, Records, Routes, Opens, LogsInto, Sends, Forgets, Drops, Closes}
+use Rattle.rws_record.specs.Item.Purpose.{Prepares, Asks, Plays, Waits, Probes}
 use Rattle.rws_record.specs.Values.{asked_on, is_up, kind_of, linked, prepared_by, sent_all, sent_for}
 use Rattle.rws_record.specs.Record.{IsBeginning, IsInput, IsRecord}
 use Rattle.rws_record.specs.Record.IsRecord.{begins, steps as goes, answers as answered, hears, starves}
@@ -17,7 +17,7 @@ use Rattle.rws_record.proofs.LinkedLemmas.{Says, after_loss_is, after_part_is}
 use Rattle.rws_record.proofs.LinkedLemmas.Says.{answers, enters, hurries, fails, breaks, part, garbled, wrong, again}
 use Rattle.rws_record.proofs.StepLemmas.{Due, Step, of_next}
 use Rattle.rws_record.proofs.StepLemmas.Due.{comes, connects, takes}
-use Rattle.rws_record.proofs.StepLemmas.Step.{pays, asks, prepares, forgets, plays, sends, floods, reads}
+use Rattle.rws_record.proofs.StepLemmas.Step.{pays, asks, prepares, forgets, plays, sends, waits_first, probes_first, floods, reads}
 use Rattle.rws_laws.proofs.CameLemmas.{by_sent}
 
 abbrev pub logs_in : LinkState → Bool
@@ -91,6 +91,7 @@ put_up past (Opens opened server login) up = λ link u. by_test link (opened == 
     by_test link true u = absurd cc
     by_test link false u = up link u
 put_up past (Hands packets) up = up
+put_up past (Records server gtid) up = up
 put_up past (Tells number tell) up = up
 put_up past Routes up = up
 put_up past (Forgets to id) up = up
@@ -108,7 +109,9 @@ step_up {past = past} (pays {put = put} o) up = put_up past put up
 step_up (asks o n p k l) up = up
 step_up {past = past} (prepares {link = to} o n k c) up = sending_up past to Prepares up
 step_up {past = past} (plays {link = to} {entry = entry} o n k c t s) up = sending_up past to (Plays entry) up
-step_up {past = past} (sends {link = to} {command = command} {id = id} o n p s k c t d i) up = sending_up past to (Asks command id) up
+step_up {past = past} (sends {link = to} {command = command} {id = id} o n p s k c t d i v) up = sending_up past to (Asks command id) up
+step_up {past = past} (waits_first {link = to} {gtid = gtid} o n p s g f t d v) up = sending_up past to (Waits gtid _) up
+step_up {past = past} (probes_first {link = to} {gtid = gtid} o n p s g f t d v) up = sending_up past to (Probes gtid) up
 step_up (forgets o n has f t) up = up
 step_up (floods o n p above) up = up
 step_up (reads o n due) up = due_up due up

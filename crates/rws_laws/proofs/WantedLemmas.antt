@@ -13,7 +13,7 @@ use Rattle.rws_record.specs.Rules.{farewells, owed}
 use Rattle.rws_record.specs.Record.{IsBeginning, IsRecord, want_number}
 use Rattle.rws_record.specs.Record.IsRecord.{begins, steps, answers, hears, starves}
 use Rattle.rws_record.proofs.StepLemmas.{Step, of_next, rests_owing_nothing}
-use Rattle.rws_record.proofs.StepLemmas.Step.{pays, asks, prepares, forgets, plays, sends, floods, reads}
+use Rattle.rws_record.proofs.StepLemmas.Step.{pays, asks, prepares, forgets, plays, sends, waits_first, probes_first, floods, reads}
 use Rattle.rws_record.proofs.WantLemmas.{input_starved, step_starved}
 use Rattle.rws_laws.specs.Causes.{IsCaused, IsStarvedAndTold, AreCaused}
 use Rattle.rws_laws.proofs.AskedLemmas.{AskedNow, legal_asked}
@@ -28,7 +28,7 @@ pub data Ends (config : Config) (past : List Item) : Type 0 where
   leaves : is_over past ≡ true → owed config past ≡ farewells past → Ends config past
 
 -- it is no end that owes nothing and isn't over
-no_end : {A : Type 0} {config : Config} {past : List Item} → owed config past ≡ [] → is_over past ≡ false → Ends config past → A
+pub no_end : {A : Type 0} {config : Config} {past : List Item} → owed config past ≡ [] → is_over past ≡ false → Ends config past → A
 no_end o n (tells below number is over its owes) = absurd cc
 no_end o n (closes owes cause) = absurd cc
 no_end o n (leaves over owes) = absurd cc
@@ -57,7 +57,9 @@ step_ends {config} {past = past} (pays {put = put} {others = others} o) ends = p
 step_ends (asks o n p k l) ends = no_end o n ends
 step_ends (prepares o n k c) ends = no_end o n ends
 step_ends (plays o n k c t s) ends = no_end o n ends
-step_ends (sends o n p s k c t d i) ends = no_end o n ends
+step_ends (sends o n p s k c t d i v) ends = no_end o n ends
+step_ends (waits_first o n p s g f t d v) ends = no_end o n ends
+step_ends (probes_first o n p s g f t d v) ends = no_end o n ends
 step_ends (forgets o n has f t) ends = no_end o n ends
 step_ends (floods o n p above) ends = no_end o n ends
 step_ends (reads o n due) ends = no_end o n ends
@@ -120,7 +122,9 @@ ends_caused {config} {past} (pays {put = put} {others = others} o) ends below = 
 ends_caused (asks o n p k l) ends below = no_end o n ends
 ends_caused (prepares o n k c) ends below = no_end o n ends
 ends_caused (plays o n k c t s) ends below = no_end o n ends
-ends_caused (sends o n p s k c t d i) ends below = no_end o n ends
+ends_caused (sends o n p s k c t d i v) ends below = no_end o n ends
+ends_caused (waits_first o n p s g f t d v) ends below = no_end o n ends
+ends_caused (probes_first o n p s g f t d v) ends below = no_end o n ends
 ends_caused (forgets o n has f t) ends below = no_end o n ends
 ends_caused (floods o n p above) ends below = no_end o n ends
 ends_caused (reads o n due) ends below = no_end o n ends

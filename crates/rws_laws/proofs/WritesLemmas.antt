@@ -1,6 +1,6 @@
 -- A transaction that may write is open at the server that the last route gave as primary.
 use Rattle.std.proofs.Common.{inl, inr, arith, ◌≡◌, ℕ, Bool, true, false, List, [], ◌∷◌, length, refl, sym, ap, subst, ◌∙◌, Option, Some, None}
-use Rattle.std.specs.Prelude.{◌≢◌, ◌≤◌, not, if◌then◌else◌}
+use Rattle.std.specs.Prelude.{◌≢◌, ◌≤◌, not, if◌then◌else◌, ◌&&◌}
 use Rattle.std.proofs.lemmas.Bool.{cases_lt, le-ltb, lt-ltb}
 use Rattle.rws_class.specs.declared.class.Class.{Class}
 use Rattle.rws_reply.specs.Replies.{Payload}
@@ -12,24 +12,24 @@ use Rattle.rws_trx.specs.declared.transaction.Transaction.{Transaction}
 use Rattle.rws_trx.specs.OnLinks.{IsPlaced}
 use Rattle.rws_route.specs.declared.destination.Target.{Target}
 use Rattle.rws_route.specs.declared.destination.Target.TheVariants.{Primary, Replica, NoPrimary as Nowhere}
-use Rattle.rws_route.specs.Targets.{candidates_of, is_in, may_leave_primary, primary_of, primary_target, read_target, target_of, unless_tried}
+use Rattle.rws_route.specs.Targets.{candidates_of, is_in, may_leave_primary, primary_of, primary_target, read_target, target_of, unless_tried, only_reads as reads_only}
 use Rattle.rws_routing.specs.declared.routing.Routing.{Routing}
 use Rattle.rws_routing.specs.Routings.{is_at, lost, tried_by}
 use Rattle.rws_config.specs.declared.config.Config.{Config}
 use Rattle.rws_commands.specs.declared.command.Command.{Command}
 use Rattle.rws_commands.specs.declared.proxy_error.ProxyError.{ProxyError}
-use Rattle.rws_commands.specs.declared.proxy_error.ProxyError.TheVariants.{UnknownCommand, NotSupported, UnknownStatement, BadExecute, TooManyStatements, NotInReadOnly, TooManyConnections, CommandTooLarge, NoPrimary, OutOfMemory}
+use Rattle.rws_commands.specs.declared.proxy_error.ProxyError.TheVariants.{UnknownCommand, NotSupported, UnknownStatement, BadExecute, TooManyStatements, NotInReadOnly, TooManyConnections, CommandTooLarge, NoPrimary, PrimaryBehind, OutOfMemory}
 use Rattle.rws_commands.specs.declared.judged.Judged.{Judged}
 use Rattle.rws_record.specs.Item.{Ending, Item, Put, Recording}
 use Rattle.rws_record.specs.Item.Item.{Accepted, TurnsAway, Began, ClientBytes, LinkReady, LinkBytes, ClientGone, LinkLost, Ticks, Routed, Comes, Connects, Takes, Floods, Puts, Starves}
-use Rattle.rws_record.specs.Item.Put.{Hands, Tells, Routes, Opens, LogsInto, Sends, Forgets, Drops, Closes}
-use Rattle.rws_record.specs.Item.Purpose.{Prepares, Asks, Plays}
+use Rattle.rws_record.specs.Item.Put.{Hands, Tells, Records, Routes, Opens, LogsInto, Sends, Forgets, Drops, Closes}
+use Rattle.rws_record.specs.Item.Purpose.{Prepares, Asks, Plays, Waits, Probes}
 use Rattle.rws_record.specs.Item.Recording.{Nothing, Accepts, Keeps}
 use Rattle.rws_record.specs.Item.Tell.{Passes, Owns, Refuses}
 use Rattle.rws_commands.specs.Judging.{changes}
 use Rattle.rws_commands.specs.Statements.{is_full}
 use Rattle.rws_commands.specs.Commands.{class_of_command, keeps}
-use Rattle.rws_record.specs.Values.{banned, class_by_pending, goes_on, kept_by, kept_on, or_link, pending, pinned, routing, sent_on, server_of, speaks, statements, transaction}
+use Rattle.rws_record.specs.Values.{banned, checked_on, class_by_pending, goes_on, kept_by, kept_on, or_link, pending, pinned, routing, sent_on, server_of, speaks, statements, transaction}
 use Rattle.rws_record.specs.Rules.{found_in, situation}
 use Rattle.rws_record.specs.Record.{IsRecord}
 use Rattle.rws_laws.specs.Client.{Took}
@@ -37,6 +37,7 @@ use Rattle.rws_laws.specs.Causes.{AreCaused, IsAt, IsOpening, found_last}
 use Rattle.rws_laws.specs.Laws.{WritesAtPrimary, found_lately}
 use Rattle.rws_laws.proofs.AimedLemmas.{goes_where_found}
 use Rattle.rws_laws.proofs.CausesLemmas.{causes}
+use Rattle.rws_laws.proofs.CheckLemmas.{heard_target}
 use Rattle.rws_laws.proofs.HistoryLemmas.{Shrinks, moves, refused_moves, shorter}
 use Rattle.rws_laws.proofs.GivenLemmas.{keeps_is}
 use Rattle.rws_laws.proofs.GoingLemmas.{Aimed}
@@ -169,6 +170,16 @@ replica_found class autocommit sent_back words loads tried banned server e = by_
     by_test true e = refl
     by_test false e = absurd (not_replica tried (primary_of words.servers) server e)
 
+-- one that was sent back may not
+not_back : (class : Class) (autocommit sent_back : Bool) → may_leave_primary class autocommit sent_back ≡ true → may_leave_primary class autocommit false ≡ true
+not_back class autocommit false may = may
+not_back class autocommit true may = by_tests (reads_only class) autocommit may
+  where
+    by_tests : (reads its : Bool) → (reads && (its && not true)) ≡ true → (reads && (its && not false)) ≡ true
+    by_tests true true may = absurd cc
+    by_tests true false may = absurd cc
+    by_tests false its may = absurd cc
+
 module _ (config : Config) (past : List Item) (its : Settled config past) where
   -- where the session is pinned nowhere
   pinned_to_none : {A : Type 0} (link : ℕ) → pinned config past ≡ None → kept_on past ≡ Some link → A
@@ -196,8 +207,9 @@ module _ (config : Config) (past : List Item) (its : Settled config past) where
             let is : found_in config past words loads ≡ Replica server =
             sym (routed_so config past words loads next found legal) ∙ same_some found (Replica server) e in
             subst (λ (c : Option Command). may_leave_primary (class_by_pending c) (transaction config past).state.autocommit false ≡ true) p
-            (replica_found (class_by_pending (pending past)) (transaction config past).state.autocommit false words loads (routing config past).tried
-            (banned past) server is);
+            (not_back (class_by_pending (pending past)) (transaction config past).state.autocommit (routing config past).sent_back
+            (replica_found (class_by_pending (pending past)) (transaction config past).state.autocommit (routing config past).sent_back words loads (routing config past).tried
+            (banned past) server is));
         aims = refl;
         lately = λ other e. e;
         goes = λ link e pin. sent_nowhere link none caused.2 e;
@@ -345,6 +357,7 @@ refused_waits past number NotInReadOnly command e = e
 refused_waits past number TooManyConnections command e = e
 refused_waits past number CommandTooLarge command e = e
 refused_waits past number NoPrimary command e = absurd cc
+refused_waits past number (PrimaryBehind wanted found) command e = absurd cc
 refused_waits past number OutOfMemory command e = e
 
 refused_aims : (config : Config) (past : List Item) (number : ℕ) (error : ProxyError)
@@ -358,6 +371,7 @@ refused_aims config past number NotInReadOnly = refl
 refused_aims config past number TooManyConnections = refl
 refused_aims config past number CommandTooLarge = refl
 refused_aims config past number NoPrimary = refl
+refused_aims config past number (PrimaryBehind wanted found) = refl
 refused_aims config past number OutOfMemory = refl
 
 lost_aims : (gone : ℕ) (r : Routing) → (lost gone r).target ≡ r.target
@@ -382,6 +396,10 @@ put_settled config (Tells number (Refuses error)) past some legal its =
 put_settled config (Sends link (Asks command id)) past some legal its = sent config past its link command id some legal
 put_settled config (Sends link Prepares) past some legal its =
     still (quiet (λ c e. e) refl (λ full. full) refl refl refl (λ l e. e) refl (λ l. refl)) its
+put_settled config (Sends link (Waits gtid seconds)) past some legal its =
+    still (quiet (λ c e. e) refl (λ full. full) refl refl refl (λ l e. e) refl (λ l. refl)) its
+put_settled config (Sends link (Probes gtid)) past some legal its =
+    still (quiet (λ c e. e) refl (λ full. full) refl refl refl (λ l e. e) refl (λ l. refl)) its
 put_settled config (Sends link (Plays entry)) past some legal its =
     still (quiet (λ c e. e) refl (λ full. full) refl refl refl (λ l e. e) refl (λ l. refl)) its
 put_settled config (Opens link server login) past some legal its =
@@ -391,6 +409,8 @@ put_settled config (Drops gone cause) past some legal its =
     still (quiet (λ c e. e) refl (λ full. full) (lost_aims gone (routing config past)) refl refl
     (λ l e. (unless_before gone l (sent_on past) e).0) refl (λ l. refl)) its
 put_settled config (Hands packets) past some legal its =
+    still (quiet (λ c e. e) refl (λ full. full) refl refl refl (λ l e. e) refl (λ l. refl)) its
+put_settled config (Records server gtid) past some legal its =
     still (quiet (λ c e. e) refl (λ full. full) refl refl refl (λ l e. e) refl (λ l. refl)) its
 put_settled config Routes past some legal its = still (quiet (λ c e. e) refl (λ full. full) refl refl refl (λ l e. e) refl (λ l. refl)) its
 put_settled config (Forgets link id) past some legal its =
@@ -419,7 +439,7 @@ item_settled config (LinkBytes link bytes) past some legal its =
     still (quiet (λ c e. e) refl (λ full. full) refl refl refl (λ l e. e) refl (λ l. refl)) its
 item_settled config ClientGone past some legal its = still (quiet (λ c e. e) refl (λ full. full) refl refl refl (λ l e. e) refl (λ l. refl)) its
 item_settled config (Ticks reading) past some legal its = still (quiet (λ c e. e) refl (λ full. full) refl refl refl (λ l e. e) refl (λ l. refl)) its
-item_settled config (Comes link said) past some legal its = still (quiet (λ c e. e) refl (less_full config past (Comes link said ∷ past) (moves config past (Comes link said) tt)) refl refl refl (λ l e. e) refl (λ l. refl)) its
+item_settled config (Comes link said) past some legal its = still (quiet (λ c e. e) refl (less_full config past (Comes link said ∷ past) (moves config past (Comes link said) tt)) (heard_target (checked_on link said past) (routing config past)) refl refl (λ l e. e) refl (λ l. refl)) its
 item_settled config (Connects said) past some legal its = still (quiet (λ c e. e) refl (λ full. full) refl refl refl (λ l e. e) refl (λ l. refl)) its
 item_settled config (Floods bytes) past some legal its = still (quiet (λ c e. e) refl (λ full. full) refl refl refl (λ l e. e) refl (λ l. refl)) its
 item_settled config (Starves made number) past some legal its =

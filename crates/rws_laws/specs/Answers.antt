@@ -7,6 +7,7 @@ use Rattle.rws_link.specs.declared.handshake.Handshake.{Handshake}
 use Rattle.rws_link.specs.Handshake.{due}
 use Rattle.rws_link.specs.Stepping.{Exchange, LinkState, LogsIn, Rests}
 use Rattle.rws_route.specs.declared.destination.Target.TheVariants.{NoPrimary as Nowhere}
+use Rattle.rws_routing.specs.declared.routing.Check.{Check}
 use Rattle.rws_config.specs.declared.config.Config.{Config}
 use Rattle.rws_config.specs.declared.limits.TheConstants.{FLOOD_ROOM, SERVER_PAYLOAD}
 use Rattle.rws_commands.specs.declared.command.Command.{Command}
@@ -14,9 +15,9 @@ use Rattle.rws_commands.specs.declared.history.HistoryEntry.{HistoryEntry}
 use Rattle.rws_commands.specs.Statements.{next_handle, unplayed}
 use Rattle.rws_record.specs.Item.{Item}
 use Rattle.rws_record.specs.Item.Purpose.{Plays}
-use Rattle.rws_record.specs.Values.{asked_on, cursor, fronted, goes_on, held, links, linked, is_up, exchange, pinned, link_held, pending, sent_on, statements, told, is_over}
+use Rattle.rws_record.specs.Values.{asked_on, cursor, fronted, goes_on, held, links, linked, is_up, exchange, pinned, link_held, pending, routing, sent_on, statements, told, is_over}
 use Rattle.rws_laws.specs.Client.{IsAwaited}
-use Rattle.rws_laws.specs.Servers.{came_on}
+use Rattle.rws_laws.specs.Servers.{asks_first, came_on}
 use Rattle.rws_laws.specs.Causes.{found_last}
 
 -- What a pending command waits for.
@@ -29,6 +30,10 @@ pub data Waits (config : Config) (command : Command) (past : List Item) : Type 0
   -- for that link, which is prepared and plays an entry of the history: the reply to it is awaited
   for_entry : (link : ℕ) (entry : HistoryEntry) (e : Exchange) → Contains (links past) link → goes_on config past ≡ Some link → sent_on past ≡ None
       → asked_on link past ≡ Some (Plays entry) → exchange link past ≡ Some e → Waits config command past
+  -- for what that link's server is asked before it: the reply to that is awaited
+  for_check : (link : ℕ) (check : Check) (e : Exchange) → Contains (links past) link → goes_on config past ≡ Some link → sent_on past ≡ None
+      → (routing config past).check ≡ Some check → asks_first (asked_on link past) ≡ Some check → exchange link past ≡ Some e
+      → Waits config command past
   -- for its reply: it was sent there, and all that came of the reply was told in the client's form
   for_reply : (link number : ℕ) → Contains (links past) link → goes_on config past ≡ Some link → sent_on past ≡ Some link
       → exchange link past ≡ Some (record { kind = command.kind; next = number; sofar = came_on link past })

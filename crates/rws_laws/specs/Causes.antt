@@ -8,7 +8,12 @@ use Rattle.rws_wire.specs.Payloads.Beginning.{Whole}
 use Rattle.rws_wire.specs.declared.fault.WireFault.{WireFault}
 use Rattle.rws_wire.specs.declared.close_reason.CloseReason.TheVariants.{Quit, Handshake, Access, Connections, OutOfOrder, TooLarge, ResultCut, OutcomeUnknown, SessionState, NotReplayable, Memory}
 use Rattle.rws_wire.specs.declared.close_reason.CloseReason.TheVariants as reasons
-use Rattle.rws_wire.specs.declared.drop_cause.DropCause.TheVariants.{BadWire, BadReply, Unasked, Greeting, Plugin, Login as LoginFails, End, Kept, SessionDiffers}
+use Rattle.rws_wire.specs.declared.drop_cause.DropCause.TheVariants.{BadWire, BadReply, Unasked, Greeting, Plugin, Login as LoginFails, End, Kept, SessionDiffers, Probe as NoAnswer}
+use Rattle.rws_gtid.specs.declared.Gtid.{Gtid}
+use Rattle.rws_gtid.specs.Parsing.{position_in}
+use Rattle.rws_causal.specs.Rules.{reached}
+use Rattle.rws_routing.specs.declared.routing.Check.{Check}
+use Rattle.rws_routing.specs.declared.routing.Check.TheVariants.{Wait, Probe}
 use Rattle.rws_class.specs.Classes.{class_of}
 use Rattle.rws_class.specs.declared.class.Class.{Class}
 use Rattle.rws_class.specs.declared.class.Class.TheVariants.{Write, Session, Begin, BeginReadOnly, Commit, Rollback, AutocommitOn, AutocommitOff, TrxLocal, Ddl, Refused, Other}
@@ -40,13 +45,13 @@ use Rattle.rws_handles.specs.Table.{execute_of, open_at}
 use Rattle.rws_commands.specs.declared.history.HistoryEntry.{HistoryEntry}
 use Rattle.rws_commands.specs.declared.judged.Judged.{Judged}
 use Rattle.rws_commands.specs.declared.judged.Judged.TheVariants.{IsSilent}
-use Rattle.rws_commands.specs.declared.proxy_error.ProxyError.TheVariants.{UnknownCommand, NotSupported, UnknownStatement, BadExecute, TooManyStatements, NotInReadOnly, TooManyConnections, CommandTooLarge, NoPrimary, OutOfMemory}
+use Rattle.rws_commands.specs.declared.proxy_error.ProxyError.TheVariants.{UnknownCommand, NotSupported, UnknownStatement, BadExecute, TooManyStatements, NotInReadOnly, TooManyConnections, CommandTooLarge, NoPrimary, PrimaryBehind, OutOfMemory}
 use Rattle.rws_commands.specs.declared.request.Request.TheVariants as requests
 use Rattle.rws_record.specs.Item.{Ending, Item, Put, Recording}
 use Rattle.rws_record.specs.Item.Item.{Accepted, TurnsAway, Began, LinkReady, LinkBytes, LinkLost, Routed, Comes, Connects, Takes, Floods, Puts, Starves}
-use Rattle.rws_record.specs.Item.Put.{Hands, Tells, Routes, Opens, LogsInto, Sends, Forgets, Drops, Closes}
+use Rattle.rws_record.specs.Item.Put.{Hands, Tells, Records, Routes, Opens, LogsInto, Sends, Forgets, Drops, Closes}
 use Rattle.rws_record.specs.Item.Tell.{Passes, Owns, Refuses}
-use Rattle.rws_record.specs.Item.Purpose.{Prepares, Asks, Plays}
+use Rattle.rws_record.specs.Item.Purpose.{Prepares, Asks, Plays, Waits, Probes}
 use Rattle.rws_record.specs.Item.Recording.{Nothing, Accepts, Keeps}
 use Rattle.rws_commands.specs.Requests.{arguments_of, request_of}
 use Rattle.rws_commands.specs.Commands.{added, as_executed, class_of_command, id_for}
@@ -54,13 +59,14 @@ use Rattle.rws_commands.specs.Statements.{next_handle, piece_in, stale_on, unpla
 use Rattle.rws_record.specs.Values.{cursor, fronted, goes_on, login_of, links, kept_on, linked, is_up, asked_on, exchange, named_on, now, link_held, pending, routing, sent_on, server_of, statements, told, told_from, transaction, transaction_bytes, is_over, is_starved}
 use Rattle.rws_record.specs.Record.{CanBeMade, want_number}
 use Rattle.rws_laws.specs.Client.{Took, IsPending, Flooded, IsSaid, Handed, WasRefused}
-use Rattle.rws_laws.specs.Servers.{came_on, replied, IsNoReply, IsUnasked, IsGarbled, LogsOn, Entered, NotEntered, IsLostFor, IsUnprepared, Lost, WasPrepared, Differs}
+use Rattle.rws_laws.specs.Servers.{came_on, replied, asks_first, value_came, NamesCommit, Probed, TellsNoPosition, IsNoReply, IsUnasked, IsGarbled, LogsOn, Entered, NotEntered, IsLostFor, IsUnprepared, Lost, WasPrepared, Differs}
 
 -- The client's prepared statements
 
--- what stands below the newest item
+-- what stands below the newest item, and below the commit that it names if that was told of since
 abbrev pub beneath : List Item → List Item
 beneath [] = []
+beneath (Puts (Records server gtid) ∷ past) = beneath past
 beneath (item ∷ past) = past
 
 -- the statements as they stand, and the open one that the handle in a command's bytes names
@@ -169,6 +175,44 @@ pub record FindsLate (config : Config) (number : ℕ) (past : List Item) : Type 
   pub first : ℕ
   pub since : first_nowhere below ≡ Some first
   pub late : first + config.primary_wait_ms ≤ now below
+  pub counts : number ≡ command.number
+
+-- What goes before a command on the link that it is to go on
+
+-- Its server is asked this before the pending command, which waits for that and is out on no link; so by the command's routing. The link is
+-- prepared and owes no reply, and it has played the history.
+pub record AsksFirst (config : Config) (link : ℕ) (check : Check) (past : List Item) : Type 0 where
+  pub command : Command
+  pub pending : IsPending config command past
+  pub unsent : sent_on past ≡ None
+  pub goes : goes_on config past ≡ Some link
+  pub has : Contains (links past) link
+  pub up : is_up link past ≡ true
+  pub prepared : WasPrepared link past
+  pub rests : linked link past ≡ Rests
+  pub played : unplayed (cursor link past) (statements config past) ≡ None
+  pub kept : stale_on link (statements config past) ≡ None
+  pub wanted : (routing config past).check ≡ Some check
+
+-- The primary was probed for the pending command, on the link that the command is to go on, and just now it told a position that can be
+-- read. By it the server has reached less than what the command is to see: these are the two sequences.
+pub record PrimaryLags (config : Config) (number wanted found : ℕ) (past : List Item) : Type 0 where
+  pub link : ℕ
+  pub gtid : Gtid
+  pub probed : Probed link gtid past
+  pub has : Contains (links past) link
+  pub list : List ℕ
+  pub told : value_came link past ≡ Some list
+  pub position : Option Gtid
+  pub read : position_in gtid.domain list ≡ Ok position
+  pub wants : wanted ≡ gtid.sequence
+  pub reaches : found ≡ reached position
+  pub less : found < wanted
+  pub command : Command
+  pub pending : IsPending config command past
+  pub unsent : sent_on past ≡ None
+  pub goes : goes_on config past ≡ Some link
+  pub for_it : (routing config past).check ≡ Some (Probe gtid)
   pub counts : number ≡ command.number
 
 -- What is set on the session's links
@@ -319,6 +363,10 @@ IsCaused config (Tells number (Refuses OutOfMemory)) past =
     (below : List Item) × (past ≡ Starves true number ∷ below) × (is_over below ≡ false) × (number ≡ want_number config below)
 -- the pending command waited for a primary too long
 IsCaused config (Tells number (Refuses NoPrimary)) past = FindsLate config number past
+-- the primary has told a position that is below what the pending command is to see
+IsCaused config (Tells number (Refuses (PrimaryBehind wanted found))) past = PrimaryLags config number wanted found past
+-- a server named it in a reply just now
+IsCaused config (Records server gtid) past = NamesCommit config.gtid_domain server gtid past
 -- a command is pending, it isn't known where it goes, and it doesn't wait for a primary
 IsCaused config Routes past =
     (command : Command) × IsPending config command past × (goes_on config past ≡ None) × ((routing config past).waits ≡ false)
@@ -335,12 +383,16 @@ IsCaused config (Sends link (Plays entry)) past =
     × (unplayed (cursor link past) (statements config past) ≡ Some entry) × (stale_on link (statements config past) ≡ None)
 -- the client's command, on the link that the session is pinned to, or that its last route gave, where that is prepared and has played
 -- the history, and the command isn't out on a link that the session has; an execute goes under the id that the link's server has for its
--- statement
+-- statement. Nothing is left to be asked there before it.
 IsCaused config (Sends link (Asks command id)) past =
     IsPending config command past × (sent_on past ≡ None) × (goes_on config past ≡ Some link) × Contains (links past) link
     × (is_up link past ≡ true) × WasPrepared link past × (linked link past ≡ Rests)
     × (unplayed (cursor link past) (statements config past) ≡ None) × (stale_on link (statements config past) ≡ None)
-    × (id_for link command.body (statements config past).table.links ≡ id)
+    × (id_for link command.body (statements config past).table.links ≡ id) × ((routing config past).check ≡ None)
+-- on the link that the pending command is to go on, before it: its routing says that a replica is to wait, for as long as the settings say,
+-- or that the primary is to tell its position
+IsCaused config (Sends link (Waits gtid seconds)) past = AsksFirst config link (Wait gtid) past × (seconds ≡ config.causal_timeout_s)
+IsCaused config (Sends link (Probes gtid)) past = AsksFirst config link (Probe gtid) past
 -- on a link that is prepared and owes no reply, the least id that its server gave to a statement that has left
 IsCaused config (Forgets link id) past =
     Contains (links past) link × (is_up link past ≡ true) × WasPrepared link past × (linked link past ≡ Rests)
@@ -380,12 +432,14 @@ IsCaused config (Closes Memory) past = IsStarvedAndTold past
 IsCaused config (Closes _) past = ⊥
 IsCaused config (Drops link BadWire) past =
     (fault : WireFault) × IsGarbled link fault past × Contains (links past) link
--- what came with this payload is no reply to the command, to the preamble or to an entry of the history, or no word on the login
+-- what came with this payload is no reply to the command, to the preamble, to an entry of the history or to what goes before a read, or no
+-- word on the login
 IsCaused config (Drops link BadReply) past =
     (((command : Command) × (payload : Payload) × IsOfReply config link command past × IsNoReply command.kind link payload past)
     ⊎ (((payload : Payload) × (asked_on link past ≡ Some Prepares) × IsNoReply QueryReply link payload past)
     ⊎ (((entry : HistoryEntry) × (payload : Payload) × (asked_on link past ≡ Some (Plays entry)) × IsNoReply entry.kind link payload past)
-    ⊎ NotEntered link losses.BadReply past)))
+    ⊎ (((check : Check) × (payload : Payload) × (asks_first (asked_on link past) ≡ Some check) × IsNoReply QueryReply link payload past)
+    ⊎ NotEntered link losses.BadReply past))))
     × Contains (links past) link
 IsCaused config (Drops link Unasked) past = IsUnasked link past × Contains (links past) link
 -- the link's login failed
@@ -399,6 +453,8 @@ IsCaused config (Drops link End) past = (is_over past ≡ true) × Contains (lin
 IsCaused config (Drops link Kept) past = (kept : ℕ) × JustKept config kept past × (kept ≢ link) × Contains (links past) link
 -- the server answered an entry of the history by an error, or prepared it with other counts
 IsCaused config (Drops link SessionDiffers) past = Differs link past × Contains (links past) link
+-- the server was probed, and told no position that can be read
+IsCaused config (Drops link NoAnswer) past = TellsNoPosition link past × Contains (links past) link
 IsCaused config (Drops link _) past = ⊥
 
 -- whether bytes stand behind a payload

@@ -1,16 +1,21 @@
 -- Laws about records and runs. Each is carried by a public function whose contract is the law.
-use Rattle.std.specs.Prelude.{◌≡◌, ◌≢◌, ◌⊎◌, ℕ, ◌-◌, ◌^◌, min, false, List, [], ◌∷◌, ◌++◌, Option, Some, None, Ok, Contains, Bool}
+use Rattle.std.specs.Prelude.{◌≡◌, ◌≢◌, ◌⊎◌, ◌≤◌, ℕ, ◌-◌, ◌^◌, min, true, false, List, [], ◌∷◌, ◌++◌, Option, Some, None, Ok, Contains, Bool}
 use Rattle.rws_wire.specs.Numbers.{AreBytes}
 use Rattle.rws_msgs.specs.declared.prepare_ok.PrepareOk.{PrepareOk}
 use Rattle.rws_reply.specs.declared.kind.Outcome.TheVariants.{Done}
+use Rattle.rws_reply.specs.declared.kind.Progress.{Progress}
 use Rattle.rws_reply.specs.declared.kind.Progress.TheVariants.{Whole as Ends}
 use Rattle.rws_reply.specs.declared.role.Role.{Role}
+use Rattle.rws_reply.specs.declared.role.Role.TheVariants as roles
+use Rattle.rws_gtid.specs.declared.Gtid.{Gtid}
+use Rattle.rws_causal.specs.Commits.{commit_in}
+use Rattle.rws_route.specs.Targets.{only_reads}
 use Rattle.rws_link.specs.declared.step.LinkStep.TheVariants as steps
 use Rattle.rws_reply.specs.declared.kind.Outcome.{Outcome}
 use Rattle.rws_reply.specs.Replies.{Payload, IsReply}
 use Rattle.rws_reply.specs.ClientForm.{without_state}
 use Rattle.rws_route.specs.declared.destination.Target.{Target}
-use Rattle.rws_route.specs.declared.destination.Target.TheVariants.{Primary}
+use Rattle.rws_route.specs.declared.destination.Target.TheVariants.{Primary, Replica}
 use Rattle.rws_trx.specs.declared.state.Open.TheVariants.{ReadWrite, ReadOnly}
 use Rattle.rws_config.specs.declared.config.Config.{Config}
 use Rattle.rws_handles.specs.PlainForm.{number_in, Plain, spelled}
@@ -25,9 +30,9 @@ use Rattle.rws_commands.specs.declared.history.HistoryEntry.{HistoryEntry}
 use Rattle.rws_commands.specs.declared.history.PreparedAs.{PreparedAs}
 use Rattle.rws_commands.specs.Statements.{next_handle, has_serial}
 use Rattle.rws_record.specs.Item.{Ending, Item, Purpose, Recording}
-use Rattle.rws_record.specs.Item.Item.{Comes, LinkBytes, Routed, Takes, Puts}
-use Rattle.rws_record.specs.Item.Purpose.{Asks, Plays}
-use Rattle.rws_record.specs.Item.Put.{Routes, Sends, Tells}
+use Rattle.rws_record.specs.Item.Item.{Comes, LinkBytes, Routed, Takes, Puts, Starves}
+use Rattle.rws_record.specs.Item.Purpose.{Prepares, Asks, Plays, Waits, Probes}
+use Rattle.rws_record.specs.Item.Put.{Records, Routes, Sends, Tells}
 use Rattle.rws_record.specs.Item.Tell.{Passes}
 use Rattle.rws_commands.specs.Commands.{class_of_command}
 use Rattle.rws_record.specs.Values.{asked_on, named_in, named_on, asking, cursor, kept_on, links, pinned, sent_for, server_of, statements, told, transaction}
@@ -39,6 +44,7 @@ use Rattle.rws_laws.specs.Causes.{AreCaused, IsAt, IsBarred, IsHidden, found_las
 use Rattle.rws_laws.specs.Client.{Took}
 use Rattle.rws_laws.specs.Servers.{Lost}
 use Rattle.rws_laws.specs.Answers.{IsAnswered}
+use Rattle.rws_laws.specs.Reads.{HasTold, Route, Wants, asked_first, position_by, route_last, wanted_by}
 use Rattle.rws_laws.specs.History.{Rises, below_serial, set_on, standing}
 
 -- In a legal record all that was read, told, opened, sent, dropped and closed has its cause.
@@ -206,3 +212,55 @@ IdsAreOfTheLink =
     (config : Config) (past : List Item) (link id : ℕ) (command : Command) (execution : Execution)
     → IsRecord config (Puts (Sends link (Asks command (Some id))) ∷ past) → command.body ≡ Run execution
     → GaveId config link (number_in execution.commands) id past
+
+-- Where a server's reply to anything but the preamble names a commit, the words are told of that before anything else is done about the
+-- reply, if memory isn't wanting just then: then nothing of it is done.
+abbrev pub RecordsFirst : Type 0
+RecordsFirst =
+    (config : Config) (past : List Item) (item : Item) (link next : ℕ) (payload : Payload) (far : Progress) (behind : Bool) (purpose : Purpose) (gtid : Gtid)
+    → IsRecord config (item ∷ Comes link (steps.Part payload roles.Ok far next behind) ∷ past) → asked_on link past ≡ Some purpose → purpose ≢ Prepares
+    → commit_in config.gtid_domain payload ≡ Some gtid
+    → (item ≡ Puts (Records (server_of link past) gtid)) ⊎ ((made : Bool) × (number : ℕ) × (item ≡ Starves made number))
+
+-- a payload in this role names no commit
+abbrev pub NamesNone : (domain : ℕ) → Role → Payload → Type 0
+NamesNone domain roles.Ok payload = commit_in domain payload ≡ None
+NamesNone domain _ payload = Unit {0}
+
+-- A payload came just now on the link, and names no commit; or it names one, and the words were told of that.
+pub data CameLast (domain link : ℕ) : List Item → Type 0 where
+  unnamed : {below : List Item} {payload : Payload} {its : Role} {far : Progress} {next : ℕ} {behind : Bool} → NamesNone domain its payload
+      → CameLast domain link (Comes link (steps.Part payload its far next behind) ∷ below)
+  named : {below : List Item} {payload : Payload} {far : Progress} {next : ℕ} {behind : Bool} {gtid : Gtid} → commit_in domain payload ≡ Some gtid
+      → CameLast domain link (Puts (Records (server_of link below) gtid) ∷ Comes link (steps.Part payload roles.Ok far next behind) ∷ below)
+
+-- So what a client is passed of a reply is passed once the words were told of the commit that it names.
+abbrev pub PassesBehindRecords : Type 0
+PassesBehindRecords =
+    (config : Config) (past : List Item) (number link : ℕ) (command : Command) (payload : Payload) (ending : Option Ending) (recording : Recording)
+    → IsRecord config (Puts (Tells number (Passes link command payload ending recording)) ∷ past) → CameLast config.gtid_domain link past
+
+-- In a session that isn't pinned to a link, a command that only reads goes to a server that has what the command is to see by its last route:
+-- the words of the route say so, or the server has told so since, on the link on which the command goes.
+abbrev pub ReadsSeeCommits : Type 0
+ReadsSeeCommits =
+    (config : Config) (past : List Item) (link : ℕ) (command : Command) (id : Option ℕ) → config.accounts ≢ []
+    → IsRecord config (Puts (Sends link (Asks command id)) ∷ past) → only_reads (class_of_command command) ≡ true → pinned config past ≡ None
+    → (route : Route) × (route_last past ≡ Some route)
+    × ((gtid : Gtid) → wanted_by config route ≡ Some gtid → (gtid.sequence ≤ position_by (server_of link past) route) ⊎ HasTold link gtid past)
+
+-- A replica is to wait for nothing else than what the pending command wants, and isn't known to be there.
+abbrev pub WaitsForWhatIsWanted : Type 0
+WaitsForWhatIsWanted =
+    (config : Config) (past : List Item) (link seconds : ℕ) (gtid : Gtid) → IsRecord config (Puts (Sends link (Waits gtid seconds)) ∷ past)
+    → (server : ℕ) × Wants config gtid server (Replica server) past
+
+-- And so it is where the primary is probed.
+abbrev pub ProbesForWhatIsWanted : Type 0
+ProbesForWhatIsWanted =
+    (config : Config) (past : List Item) (link : ℕ) (gtid : Gtid) → IsRecord config (Puts (Sends link (Probes gtid)) ∷ past)
+    → (server : ℕ) × Wants config gtid server (Primary server) past
+
+-- For each time that it is routed, a command costs at most one question before it.
+abbrev pub OneQuestionARoute : Type 0
+OneQuestionARoute = (config : Config) (past : List Item) → IsRecord config past → asked_first past ≤ 1

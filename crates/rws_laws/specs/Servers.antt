@@ -1,5 +1,5 @@
 -- What came of a server on a link: in the link's login, of the replies that it owes, and unasked.
-use Rattle.std.specs.Prelude.{◌≡◌, ◌⊎◌, ℕ, true, false, List, [], ◌∷◌, ◌++◌, ◌==◌, nat_eq, Option, Some, None, Ok, Err, if◌then◌else◌}
+use Rattle.std.specs.Prelude.{◌≡◌, ◌≢◌, ◌⊎◌, ℕ, Bool, true, false, List, [], ◌∷◌, ◌++◌, ◌==◌, nat_eq, Option, Some, None, Ok, Err, Contains, if◌then◌else◌}
 use Rattle.std.specs.Cmp.Lexicographic.{pointwise}
 use Rattle.rws_wire.specs.Packets.{spelling}
 use Rattle.rws_wire.specs.Payloads.{first_payload}
@@ -15,12 +15,22 @@ use Rattle.rws_msgs.specs.ResponseLayout.{response_bytes}
 use Rattle.rws_msgs.specs.OkLayout.{ok_status}
 use Rattle.rws_msgs.specs.ErrLayout.{err_code}
 use Rattle.rws_msgs.specs.SwitchLayout.{plugin_asked, switch_at}
+use Rattle.rws_gtid.specs.declared.Gtid.{Gtid}
+use Rattle.rws_gtid.specs.declared.GtidFault.{GtidFault}
+use Rattle.rws_gtid.specs.Parsing.{position_in}
 use Rattle.rws_native.specs.declared.login.Login.{Login}
 use Rattle.rws_reply.specs.declared.kind.Kind.{Kind}
 use Rattle.rws_reply.specs.declared.kind.Kind.TheVariants.{Query as QueryReply}
 use Rattle.rws_reply.specs.declared.kind.Outcome.{Outcome}
 use Rattle.rws_reply.specs.declared.kind.Outcome.TheVariants.{Done, Failed}
+use Rattle.rws_reply.specs.declared.kind.Progress.{Progress}
+use Rattle.rws_reply.specs.declared.role.Role.TheVariants as Role
 use Rattle.rws_reply.specs.Replies.{Payload, IsReply, Begins}
+use Rattle.rws_result.specs.OneValues.{only_value}
+use Rattle.rws_result.specs.ResultSets.{result_set}
+use Rattle.rws_causal.specs.Commits.{commit_in}
+use Rattle.rws_routing.specs.declared.routing.Check.{Check}
+use Rattle.rws_routing.specs.declared.routing.Check.TheVariants.{Wait, Probe}
 use Rattle.rws_link.specs.declared.handshake.Handshake.{Handshake}
 use Rattle.rws_link.specs.declared.handshake.Handshake.TheVariants.{Greeting as AwaitsGreeting, Answered}
 use Rattle.rws_link.specs.declared.step.LinkCause.{LinkCause}
@@ -33,11 +43,11 @@ use Rattle.rws_config.specs.declared.limits.TheConstants.{SERVER_PAYLOAD}
 use Rattle.rws_msgs.specs.declared.prepare_ok.PrepareOk.{PrepareOk}
 use Rattle.rws_commands.specs.declared.history.HistoryEntry.{HistoryEntry}
 use Rattle.rws_commands.specs.declared.history.PreparedAs.{PreparedAs}
-use Rattle.rws_record.specs.Item.{Item}
+use Rattle.rws_record.specs.Item.{Item, Purpose}
 use Rattle.rws_record.specs.Item.Item.{Began, LinkReady, LinkBytes, LinkLost, Comes, Puts}
-use Rattle.rws_record.specs.Item.Put.{Sends, Drops}
-use Rattle.rws_record.specs.Item.Purpose.{Prepares, Plays}
-use Rattle.rws_record.specs.Values.{asked_on, linked, named_on, exchange, link_held}
+use Rattle.rws_record.specs.Item.Put.{Records, Sends, Drops}
+use Rattle.rws_record.specs.Item.Purpose.{Prepares, Plays, Waits, Probes}
+use Rattle.rws_record.specs.Values.{asked_on, links, linked, named_on, exchange, link_held, server_of}
 
 -- Its payloads
 
@@ -57,10 +67,47 @@ abbrev pub replied_by : ℕ → LinkStep → Option ℕ
 replied_by link (steps.Part payload role progress next behind) = Some link
 replied_by link _ = None
 
--- the link on which a payload of a reply came last
+-- the link on which a payload of a reply came last; the commit that it names may have been told of since
 abbrev pub replied : List Item → Option ℕ
 replied (Comes link said ∷ past) = replied_by link said
+replied (Puts (Records server gtid) ∷ past) = replied past
 replied _ = None
+
+-- The newest item is an OK that names this commit: a server sent it in a reply, which isn't that to the preamble.
+pub data NamesCommit (domain server : ℕ) (gtid : Gtid) : List Item → Type 0 where
+  names : {past : List Item} {link next : ℕ} {payload : Payload} {far : Progress} {behind : Bool} {purpose : Purpose}
+      → Contains (links past) link → server_of link past ≡ server → asked_on link past ≡ Some purpose → purpose ≢ Prepares
+      → commit_in domain payload ≡ Some gtid
+      → NamesCommit domain server gtid (Comes link (steps.Part payload Role.Ok far next behind) ∷ past)
+
+-- what a server is asked for this purpose before a read, if it is that
+abbrev pub asks_first : Option Purpose → Option Check
+asks_first (Some (Waits gtid seconds)) = Some (Wait gtid)
+asks_first (Some (Probes gtid)) = Some (Probe gtid)
+asks_first _ = None
+
+-- the one value of the result set that came on the link since something was sent there
+abbrev pub value_came : ℕ → List Item → Option (List ℕ)
+value_came link past = only_value (result_set (came_on link past))
+
+-- A probe of the primary was answered just now, by a whole reply.
+pub record Probed (link : ℕ) (gtid : Gtid) (past : List Item) : Type 0 where
+  pub came : replied past ≡ Some link
+  pub asked : asked_on link past ≡ Some (Probes gtid)
+  pub outcome : Outcome
+  pub whole : IsReply QueryReply (came_on link past) outcome
+  pub left : exchange link past ≡ None
+
+-- a value is no position of a server
+abbrev pub IsNoPosition : (domain : ℕ) → Option (List ℕ) → Type 0
+IsNoPosition domain (Some list) = (fault : GtidFault) × (position_in domain list ≡ Err fault)
+IsNoPosition domain None = Unit {0}
+
+-- so the server told no position
+pub record TellsNoPosition (link : ℕ) (past : List Item) : Type 0 where
+  pub gtid : Gtid
+  pub probed : Probed link gtid past
+  pub none : IsNoPosition gtid.domain (value_came link past)
 
 -- Its side of the login
 

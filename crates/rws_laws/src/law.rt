@@ -1,5 +1,5 @@
 //! Laws about a session's record. Each function does nothing; its contract is the law, which is proved with it.
-ghost use Rattle.rws_laws.specs.Laws.{Answered, AnsweredInRuns, Causes, CausesInRuns, CountsItsLog, ExecutesKeepTheirForm, GoesWhereFound, IdsAreOfTheLink, NoChangeInReadOnly, NothingBehindHidden, OneLinkEach, OnlyPreparesLeave, PinnedTakesNoRoute, PlaysInOrder, SetsBeforeItAsks, SetsInOrder, StaysOnItsLink, WholeReplies, WritesAtPrimary};
+ghost use Rattle.rws_laws.specs.Laws.{Answered, AnsweredInRuns, Causes, CausesInRuns, CountsItsLog, ExecutesKeepTheirForm, GoesWhereFound, IdsAreOfTheLink, NoChangeInReadOnly, NothingBehindHidden, OneLinkEach, OneQuestionARoute, OnlyPreparesLeave, PassesBehindRecords, PinnedTakesNoRoute, PlaysInOrder, ProbesForWhatIsWanted, ReadsSeeCommits, RecordsFirst, SetsBeforeItAsks, SetsInOrder, StaysOnItsLink, WaitsForWhatIsWanted, WholeReplies, WritesAtPrimary};
 
 /// All that a session read, told, opened, sent, dropped and closed has its cause in what stands below it: in the bytes of the
 /// client and of its links.
@@ -72,4 +72,24 @@ pub fn nothing_behind_hidden()
 pub fn executes_keep_their_form()
     ensures form { ExecutesKeepTheirForm }
     ensures own { IdsAreOfTheLink }
+{}
+
+/// A commit that a server names is told to the words of the pool before anything else is done about its reply, so before a client
+/// knows of the commit.
+pub fn records_come_first()
+    ensures next { RecordsFirst }
+    ensures passed { PassesBehindRecords }
+{}
+
+/// A server is asked something before a command only where the command reads, and is to see a commit that the server isn't known to
+/// have; and at most once for each time that the command is routed.
+pub fn asks_first_what_is_wanted()
+    ensures waits { WaitsForWhatIsWanted }
+    ensures probes { ProbesForWhatIsWanted }
+    ensures once { OneQuestionARoute }
+{}
+
+/// A command that only reads goes to a server that has what the settings say it is to see.
+pub fn reads_see_commits()
+    ensures { ReadsSeeCommits }
 {}

@@ -9,7 +9,8 @@
 mod law;
 
 pub use law::{
-    causes, counts_its_log, goes_where_found, has_answered, links_are_set_alike,
-    no_change_in_read_only, nothing_behind_hidden, one_link_each, replies_are_whole,
-    stays_on_its_link, writes_at_primary,
+    asks_first_what_is_wanted, causes, counts_its_log, executes_keep_their_form, goes_where_found,
+    has_answered, links_are_set_alike, no_change_in_read_only, nothing_behind_hidden,
+    one_link_each, reads_see_commits, records_come_first, replies_are_whole, stays_on_its_link,
+    writes_at_primary,
 };
