@@ -1,4 +1,2 @@
--- What makers did.
-pub mod MakerLemmas
 -- What boards give.
 pub mod OutsideLemmas

@@ -1,6 +1,6 @@
 -- Clients that come in.
 use Rattle.std.specs.Prelude.{⊤}
-use Rattle.rws_mio.specs.Outside.{HasNoZero}
+use Rattle.rws_make.specs.Zeros.{HasNoZero}
 use Rattle.rws_mio.specs.declared.gate.Admission.{Admission}
 use Rattle.rws_mio.specs.declared.gate.Admission.TheVariants.{Client, Again, Nobody}
 

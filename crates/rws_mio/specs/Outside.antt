@@ -1,11 +1,8 @@
 -- What a board over sockets says of the events that it gives.
-use Rattle.std.specs.Prelude.{◌≡◌, ◌≤◌, ◌-◌, ℕ, List, Contains, Option, None, Some, ⊤}
+use Rattle.std.specs.Prelude.{◌≡◌, ◌≤◌, ◌-◌, ℕ, Option, None, Some, ⊤}
 use Rattle.rws_board.specs.declared.event.Event.{Event}
 use Rattle.rws_board.specs.declared.event.Event.TheVariants.{Accept, Clock, End}
-
--- no byte of it is zero
-abbrev pub HasNoZero : List ℕ → Type 0
-HasNoZero scramble = Contains scramble 0 → ⊥
+use Rattle.rws_make.specs.Zeros.{HasNoZero}
 
 -- it came from a socket; a scramble has no zero
 abbrev pub IsHeard : Event → Type 0

@@ -27,7 +27,7 @@ impl Table {
         Ok(())
     }
 
-    // A connection that is open has no deadline, and one that sent something meanwhile has a later one.
+    /// A connection that is open has no deadline, and one that sent something meanwhile has a later one.
     fn expire<R: Net>(
         &mut self,
         rt: &R,
@@ -53,6 +53,7 @@ impl Table {
         }
     }
 
+    /// Has a connection looked at again at this time.
     fn look_again(&mut self, place: usize, until_ms: u64) -> Result<(), AllocError> {
         self.deadlines.push_back(Deadline { place, until_ms })?;
         Ok(())

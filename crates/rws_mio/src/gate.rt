@@ -1,11 +1,11 @@
 //! Where clients come in.
 ghost use Rattle.std.specs.Prelude.{IfOk};
 ghost use Rattle.rws_mio.specs.Admissions.{IsSound};
-ghost use Rattle.rws_mio.specs.Outside.{HasNoZero};
+ghost use Rattle.rws_make.specs.Zeros.{HasNoZero};
 
-use crate::scrambles::Scrambles;
 use mio::net::{TcpListener, TcpStream};
 use rws_board::BoardFault;
+use rws_make::Scrambles;
 use std::io;
 use std::net::SocketAddr;
 use std::rt::Files;
@@ -37,6 +37,7 @@ pub(crate) struct Gate {
 }
 
 impl Gate {
+    /// No client came in yet.
     pub fn new(listener: Option<TcpListener>) -> Gate {
         Gate {
             listener,
@@ -69,6 +70,7 @@ impl Gate {
         }
     }
 
+    /// Gives a client the next number. It fails where the numbers are used up.
     fn welcome(&mut self, stream: TcpStream, scramble: [u8; 20]) -> Result<Admission, BoardFault>
         requires { HasNoZero scramble }
         ensures { IfOk result IsSound }
@@ -82,7 +84,7 @@ impl Gate {
         })
     }
 
-    // What an error of the system means for the listener.
+    /// What an error of the system means for the listener.
     fn put_off(&mut self, error: &io::Error) -> Result<Admission, BoardFault>
         ensures { IfOk result IsSound }
     {

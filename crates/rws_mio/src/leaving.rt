@@ -73,6 +73,7 @@ impl Table {
         }
     }
 
+    /// The links at these places have no client any more; what held them back is gone.
     fn part_from_links(&mut self, links: &[Option<usize>]) -> Result<(), AllocError> {
         for place in links {
             if let Some(place) = place {
@@ -83,11 +84,13 @@ impl Table {
         Ok(())
     }
 
+    /// The client at a place has no link to this server any more, and isn't held back by it.
     fn part_from_client(&mut self, place: usize, server: u8) -> Result<(), AllocError> {
         self.set_link(place, server, None);
         self.arrange_serving(place)
     }
 
+    /// Says which connection is the client of a link.
     fn set_client(&mut self, place: usize, new: Option<usize>) {
         if let Some(peer) = self.peers.get_mut(place) {
             peer.set_client(new);

@@ -3,10 +3,9 @@ ghost use Rattle.std.specs.Prelude.{◌≡◌, ◌≤◌, None, Some, IfOk, IsEr
 ghost use Rattle.rws_board.specs.Faults.{Rises};
 ghost use Rattle.rws_mio.specs.Outside.{CameAt, GivenAt, GivenOf};
 
-use crate::planned_board::counted;
 use crate::sockets::Sockets;
-use crate::timer::Timer;
 use rws_board::{Action, Board, BoardFault, Event};
+use rws_make::{Timer, counted};
 use rws_pool::PoolCall;
 use std::net::{Net, SocketAddr};
 use std::rt::Files;
@@ -53,7 +52,7 @@ impl<R: Net + Clock + Files + Drop> MioBoard<R> {
         self.sockets.address()
     }
 
-    // Gives the next event, or the end.
+    /// Gives the next event, or the end.
     fn give(&mut self, wait_ms: u64) -> Result<Event, BoardFault>
         ensures given { IfOk result (λ event. GivenAt self.old.left self.new.left self.old.timer.reading self.new.timer.reading event) }
         ensures faults { self.new.faults ≡ self.old.faults }
@@ -65,7 +64,7 @@ impl<R: Net + Clock + Files + Drop> MioBoard<R> {
         }
     }
 
-    // Gives the next event of so many, or the end.
+    /// Gives the next event of so many, or the end.
     fn give_of(&mut self, more: u64, wait_ms: u64) -> Result<Event, BoardFault>
         requires { self.old.left ≡ Some more }
         ensures given { IfOk result (λ event. GivenOf more self.new.left self.old.timer.reading self.new.timer.reading event) }
@@ -112,7 +111,7 @@ impl<R: Net + Clock + Files + Drop> Board for MioBoard<R> {
     ghost did_nothing = { λ _. tt };
 }
 
-// The next event from the clock or from a socket.
+/// The next event from the clock or from a socket.
 fn came<R: Net + Clock + Files>(
     rt: &R,
     sockets: &mut Sockets,
@@ -130,7 +129,7 @@ fn came<R: Net + Clock + Files>(
     Err(BoardFault::Failed)
 }
 
-// Does one thing: gives a clock that is due, serves a socket, or waits for the sockets.
+/// Does one thing: gives a clock that is due, serves a socket, or waits for the sockets.
 #[tactic(auto, using(crate::proofs::OutsideLemmas::heard_at))]
 fn look<R: Net + Clock + Files>(
     rt: &R,

@@ -2,13 +2,12 @@
 ghost use Rattle.std.specs.Prelude.{◌≡◌, ◌≤◌, IfOk, ⊤};
 ghost use Rattle.rws_board.specs.Faults.{Rises};
 
+use crate::MioBoard;
 use crate::addresses::addresses_of;
-use crate::list_maker::with_board;
 use crate::sockets::Sockets;
-use crate::timer::Timer;
-use crate::{BoardMaker, MakeFault, MioBoard};
 use mio::net::TcpListener;
 use rws_config::Config;
+use rws_make::{BoardMaker, MakeFault, Timer, with_board};
 use std::alloc::{AllocError, Global};
 use std::io;
 use std::net::{Ipv4Addr, Net, SocketAddr};
@@ -46,7 +45,7 @@ impl<R: Net + Clock + Files + Clone + Drop> MioMaker<R> {
         self.failure.as_ref()
     }
 
-    // What an error of the system says: that memory is wanting, or that a board couldn't be made.
+    /// What an error of the system says: that memory is wanting, or that a board couldn't be made.
     fn refuse(&mut self, error: io::Error) -> MakeFault
         ensures counts { self.old.faults ≤ self.new.faults }
         ensures failed { result ≡ MakeFault.Failed → Rises self.old.faults self.new.faults }
@@ -96,7 +95,7 @@ impl<R: Net + Clock + Files + Clone + Send + Drop> BoardMaker for MioMaker<R> {
     ghost did_nothing = { λ _. tt };
 }
 
-// Makes the board of a place.
+/// Makes the board of a place.
 fn board_at<R: Net + Clock + Files + Clone + Drop>(
     rt: &R,
     alloc: Global,
@@ -116,7 +115,7 @@ fn board_at<R: Net + Clock + Files + Clone + Drop>(
     Ok(MioBoard::new(rt.clone()?, sockets, timer, events))
 }
 
-// Listens at the first of a host's addresses at which that can be done. A host without a name is this machine at all of its addresses.
+/// Listens at the first of a host's addresses at which that can be done. A host without a name is this machine at all of its addresses.
 fn listener_at<R: Net>(rt: &R, alloc: Global, text: &[u8]) -> io::Result<TcpListener> {
     let mut failure = io::Error::from(io::ErrorKind::NotFound);
     for address in addresses_of(rt, alloc, text, Ipv4Addr::UNSPECIFIED)?.iter() {
@@ -128,7 +127,7 @@ fn listener_at<R: Net>(rt: &R, alloc: Global, text: &[u8]) -> io::Result<TcpList
     Err(failure)
 }
 
-// The addresses of each server, none where its name isn't known. A host without a name is this machine.
+/// The addresses of each server, none where its name isn't known. A host without a name is this machine.
 fn server_addresses<R: Net>(
     rt: &R,
     alloc: Global,

@@ -37,6 +37,7 @@ impl Table {
         }
     }
 
+    /// Finds a link by its number from now on, and by its client; it has its time to be made.
     fn note_link(
         &mut self,
         link: u64,
@@ -109,7 +110,7 @@ impl Table {
         }
     }
 
-    // Goes on with a connection to another address.
+    /// Goes on with a connection to another address.
     fn replace(&mut self, place: usize, stream: TcpStream, tried: usize) -> Result<(), AllocError> {
         let until_ms = self.patience_ends();
         if let Some(peer) = self.peers.get_mut(place) {
@@ -122,7 +123,7 @@ impl Table {
         Ok(())
     }
 
-    // Begins to connect to the first address behind those that were tried at which that can begin. Says how many are tried then.
+    /// Begins to connect to the first address behind those that were tried at which that can begin. Says how many are tried then.
     fn dial<R: Net>(
         &self,
         rt: &R,
@@ -143,7 +144,7 @@ impl Table {
     }
 }
 
-// Begins to connect.
+/// Begins to connect.
 fn connect<R: Net>(
     rt: &R,
     registry: &Registry,

@@ -3,10 +3,10 @@ ghost use Rattle.std.specs.Prelude.{◌≡◌, ℕ, length};
 ghost use Rattle.rws_mio.specs.Outside.{IsHeard};
 ghost use Rattle.rws_mio.specs.Reads.{IsWithin};
 
-use crate::output::Output;
 use mio::event;
 use mio::net::TcpStream;
 use rws_board::Event;
+use rws_make::Output;
 use rws_wire::Text;
 use std::io::{self, Read, Write};
 use std::net::Shutdown;
@@ -136,6 +136,7 @@ impl Peer {
         }
     }
 
+    /// What an error of a read means: nothing came as yet, or nothing more comes.
     fn read_failed(&mut self, kind: io::ErrorKind) -> Heard
         ensures { (size : ℕ) → IsWithin size result }
     {
@@ -149,6 +150,7 @@ impl Peer {
         }
     }
 
+    /// Nothing more is read.
     fn end(&mut self) -> Heard
         ensures { result ≡ Heard.Finish }
     {
@@ -176,7 +178,7 @@ impl Peer {
         Sent::Some
     }
 
-    // Writes once, and says whether the socket took anything.
+    /// Writes once, and says whether the socket took anything.
     fn write(&mut self) -> bool {
         if self.blocked || self.failed || self.output.is_empty() {
             return false;
@@ -194,7 +196,7 @@ impl Peer {
         }
     }
 
-    // A socket that takes nothing any more may still have bytes to be read, up to its end.
+    /// A socket that takes nothing any more may still have bytes to be read, up to its end.
     fn write_failed(&mut self, kind: io::ErrorKind) {
         match kind {
             io::ErrorKind::Interrupted => {}
@@ -208,8 +210,8 @@ impl Peer {
         }
     }
 
-    // Tells the other end that nothing more comes. Says whether the connection may be closed now: a socket that is closed with
-    // unread bytes would take back what it sent.
+    /// Tells the other end that nothing more comes. Says whether the connection may be closed now: a socket that is closed with
+    /// unread bytes would take back what it sent.
     fn finish(&mut self) -> bool {
         if self.ended || self.failed {
             return true;

@@ -24,6 +24,7 @@ impl Table {
         }
     }
 
+    /// Has a connection sent a text behind what waits for it.
     fn put(&mut self, place: usize, bytes: Text) -> Result<(), AllocError> {
         let Some(peer) = self.peers.get_mut(place) else {
             return Ok(());
@@ -43,7 +44,7 @@ impl Table {
         Ok(())
     }
 
-    // Sends once. A connection that is given up is closed as soon as all was sent and read.
+    /// Sends once. A connection that is given up is closed as soon as all was sent and read.
     fn send(&mut self, place: usize) -> Result<(), AllocError> {
         let until_ms = self.patience_ends();
         let Some(peer) = self.peers.get_mut(place) else {
@@ -60,7 +61,7 @@ impl Table {
         }
     }
 
-    // What was held back by a full output may be read again.
+    /// What was held back by a full output may be read again.
     fn release(&mut self, place: usize, role: Role) -> Result<(), AllocError> {
         self.arrange_serving(place)?;
         match role {
@@ -69,6 +70,7 @@ impl Table {
         }
     }
 
+    /// The same for each of these places at which there is a connection.
     fn release_all(&mut self, places: &[Option<usize>]) -> Result<(), AllocError> {
         for place in places {
             if let Some(place) = place {

@@ -1,14 +1,15 @@
 //! What came from the sockets of a board.
 ghost use Rattle.std.specs.Prelude.{IfOk, IfSome};
-ghost use Rattle.rws_mio.specs.Outside.{HasNoZero, IsHeard};
+ghost use Rattle.rws_make.specs.Zeros.{HasNoZero};
+ghost use Rattle.rws_mio.specs.Outside.{IsHeard};
 
 use crate::gate::Admission;
-use crate::output::Output;
 use crate::peer::{Heard, Peer, Phase, Role};
 use crate::table::{GATE, Table};
 use mio::net::TcpStream;
 use mio::{Interest, Registry, Token};
 use rws_board::{BoardFault, Event};
+use rws_make::Output;
 use rws_wire::Text;
 use std::alloc::AllocError;
 use std::net::Net;
@@ -38,14 +39,14 @@ impl Table {
         }
     }
 
-    // The connection no longer stands among those to be served.
+    /// The connection no longer stands among those to be served.
     fn begin_serving(&mut self, place: usize) -> Option<Phase> {
         let peer = self.peers.get_mut(place)?;
         peer.queued = false;
         Some(peer.phase)
     }
 
-    // Lets a client in.
+    /// Lets a client in.
     fn admit<R: Files>(&mut self, rt: &R, registry: &Registry) -> Result<Option<Event>, BoardFault>
         ensures { IfOk result (λ found. IfSome found IsHeard) }
     {
@@ -67,7 +68,7 @@ impl Table {
         }
     }
 
-    // Gives a client a place. One that the system doesn't watch is turned away without a word.
+    /// Gives a client a place. One that the system doesn't watch is turned away without a word.
     fn seat(
         &mut self,
         registry: &Registry,
@@ -88,6 +89,7 @@ impl Table {
         Ok(Some(Event::Accept { session, scramble }))
     }
 
+    /// Finds a client by its session from now on.
     fn note_session(&mut self, session: u32, place: usize) -> Result<(), AllocError> {
         self.sessions.insert(session, place)?;
         Ok(())
@@ -106,7 +108,7 @@ impl Table {
         Ok(())
     }
 
-    // Reads from a connection that is open. One whose bytes would cause more than a slow reader takes waits.
+    /// Reads from a connection that is open. One whose bytes would cause more than a slow reader takes waits.
     fn hear(&mut self, place: usize) -> Result<Option<Event>, BoardFault>
         ensures { IfOk result (λ found. IfSome found IsHeard) }
     {
@@ -134,7 +136,7 @@ impl Table {
         }
     }
 
-    // Reads from a connection that is given up, up to its end.
+    /// Reads from a connection that is given up, up to its end.
     fn drain(&mut self, place: usize) -> Result<(), AllocError> {
         let Some(peer) = self.peers.get_mut(place) else {
             return Ok(());
@@ -150,6 +152,7 @@ impl Table {
         }
     }
 
+    /// Whether a connection isn't read for now. A place without one isn't read either.
     fn is_held_back(&self, place: usize) -> bool {
         match self.peers.get(place) {
             None => true,
@@ -157,7 +160,7 @@ impl Table {
         }
     }
 
-    // A client is held back by what waits for itself and for its links, a link by what waits for its client.
+    /// A client is held back by what waits for itself and for its links, a link by what waits for its client.
     fn is_held_back_as(&self, role: Role, is_full: bool) -> bool {
         match role {
             Role::Client { links, .. } => is_full || self.is_any_full(&links),
@@ -165,6 +168,7 @@ impl Table {
         }
     }
 
+    /// Whether so much waits at one of these places that no more is to be caused.
     fn is_any_full(&self, places: &[Option<usize>]) -> bool {
         for place in places {
             if let Some(place) = place

@@ -84,7 +84,7 @@ impl Sockets {
         }
     }
 
-    // Asks the system what came, and waits for it if nothing else is to be done.
+    /// Asks the system what came, and waits for it if nothing else is to be done.
     fn wait(&mut self, left_ms: u64) -> Result<(), BoardFault> {
         let wait_ms = if self.table.ready.is_empty() {
             left_ms

@@ -1,7 +1,7 @@
 //! Boards in memory that are still to be made.
 ghost use Rattle.std.specs.Prelude.{◌≡◌, ◌++◌, List, [], ◌∷◌, ℕ, None, Some, take, slice_get, IfOk, OnOk, OnErr, MatchOption};
 ghost use Rattle.std.specs.Option.{option_copied};
-ghost use Rattle.rws_mio.specs.Plans.{Plan, board_of};
+ghost use Rattle.rws_make.specs.Plans.{Plan, board_of};
 
 use crate::PlannedBoard;
 use rws_board::{CallList, Event, EventList, ListBoard};
@@ -17,7 +17,7 @@ pub struct BoardPlan {
 }
 
 impl Model for BoardPlan {
-    ghost use Rattle.rws_mio.specs.Plans.{Plan};
+    ghost use Rattle.rws_make.specs.Plans.{Plan};
 
     ghost Value = { Plan };
 
@@ -84,7 +84,7 @@ pub struct BoardList {
 
 impl Model for BoardList {
     ghost use Rattle.std.specs.Prelude.{List};
-    ghost use Rattle.rws_mio.specs.Plans.{Plan};
+    ghost use Rattle.rws_make.specs.Plans.{Plan};
 
     ghost Value = { List Plan };
 

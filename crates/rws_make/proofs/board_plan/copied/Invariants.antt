@@ -1,5 +1,5 @@
 use Rattle.std.proofs.Common.{◌≡◌, take}
-use Rattle.rws_mio.proofs.board_plan.copied.Given as goal
+use Rattle.rws_make.proofs.board_plan.copied.Given as goal
 
 -- the list so far has the events so far
 abbrev pub invariant-loop-event : goal.invariant-loop-event

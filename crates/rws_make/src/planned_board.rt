@@ -80,7 +80,8 @@ impl Board for PlannedBoard {
 }
 
 /// The count of failed calls after this fault. Want of memory isn't one.
-pub(crate) fn counted(faults: u64, fault: BoardFault) -> u64
+pub fn counted(faults: u64, fault: BoardFault) -> u64
+    ensures kept { fault ≡ BoardFault.OutOfMemory → result ≡ faults }
     ensures counts { faults ≤ result }
     ensures failed { fault ≡ BoardFault.Failed → Rises faults result }
 {

@@ -1,5 +1,5 @@
-use Rattle.rws_mio.proofs.MakerLemmas.{then_asked}
-use Rattle.rws_mio.proofs.list_maker.ListMakerBoardMaker.make.Goals as goal
+use Rattle.rws_make.proofs.MakerLemmas.{then_asked}
+use Rattle.rws_make.proofs.list_maker.ListMakerBoardMaker.make.Goals as goal
 
 pub returns-clause-did : goal.returns-clause-did
 returns-clause-did c =

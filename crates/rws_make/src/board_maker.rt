@@ -4,8 +4,8 @@
 //! and each call says what it adds to what the maker did before.
 ghost use Rattle.std.specs.Prelude.{ℕ, ◌≡◌, ◌+◌, ◌≤◌, List, [], ◌∷◌, ◌++◌, length, MatchResult, IfOk, IsErrOf, OnOk, OnErr};
 ghost use Rattle.rws_board.specs.Faults.{Rises};
-ghost use Rattle.rws_mio.specs.Makers.{CountsBack, Making};
-ghost use Rattle.rws_mio.specs.Makers.Making.{Made, Refused, TookBack};
+ghost use Rattle.rws_make.specs.Makers.{CountsBack, Making};
+ghost use Rattle.rws_make.specs.Makers.Making.{Made, Refused, TookBack};
 
 use rws_board::Board;
 use rws_config::Config;
@@ -59,7 +59,7 @@ pub enum MakeFault {
 }
 
 impl From<AllocError> for MakeFault {
-    ghost use Rattle.rws_mio.specs.declared.board_maker.MakeFault.TheVariants.{OutOfMemory};
+    ghost use Rattle.rws_make.specs.declared.board_maker.MakeFault.TheVariants.{OutOfMemory};
 
     ghost from_gives = { λ _ fault. fault ≡ OutOfMemory };
 

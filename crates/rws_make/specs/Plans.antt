@@ -2,9 +2,9 @@
 use Rattle.std.specs.Prelude.{◌≡◌, ◌+◌, ℕ, List, [], ◌∷◌, ◌++◌, Option, None, Some, slice_get, ⊤}
 use Rattle.rws_board.specs.Boards.{ListBoardState}
 use Rattle.rws_board.specs.declared.event.Event.{Event}
-use Rattle.rws_mio.specs.Makers.{Making, boards_back, places_asked}
-use Rattle.rws_mio.specs.Makers.Making.{Made, Refused, TookBack}
-use Rattle.rws_mio.specs.declared.planned_board.PlannedBoard.{PlannedBoard}
+use Rattle.rws_make.specs.Makers.{Making, boards_back, places_asked}
+use Rattle.rws_make.specs.Makers.Making.{Made, Refused, TookBack}
+use Rattle.rws_make.specs.declared.planned_board.PlannedBoard.{PlannedBoard}
 
 -- a board that is to give these events and then the end; `fails`: the numbers, from 0, of the calls that are to fail
 pub record Plan : Type 0 where

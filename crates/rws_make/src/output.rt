@@ -1,6 +1,6 @@
 //! Bytes on their way to one socket.
 ghost use Rattle.std.specs.Prelude.{◌≡◌, ◌≤◌, ◌++◌, ◌==◌, List, [], drop, length, OnOk, OnErr};
-ghost use Rattle.rws_mio.specs.Unsent.{is_full};
+ghost use Rattle.rws_make.specs.Unsent.{is_full};
 
 use rws_wire::Text;
 use std::alloc::{AllocError, Global};
@@ -17,7 +17,7 @@ const KEPT_ROOM: usize = 16 * 1024;
 
 /// What a socket hasn't taken yet, in order.
 #[derive(Drop)]
-pub(crate) struct Output {
+pub struct Output {
     bytes: Vec<u8>,
     start: usize,
 }
@@ -101,7 +101,7 @@ impl Output {
         self.give_back();
     }
 
-    // Keeps the memory of a text that is the first to wait.
+    /// Keeps the memory of a text that is the first to wait.
     fn take_over(&mut self, text: Text)
         requires { self.old ≡ [] }
         ensures { self.new ≡ self.old ++ text }
@@ -110,7 +110,7 @@ impl Output {
         self.start = 0;
     }
 
-    // Cuts off what was sent, where that is more than what is left.
+    /// Cuts off what was sent, where that is more than what is left.
     fn compact(&mut self)
         ensures { self.new ≡ self.old }
     {
@@ -122,7 +122,7 @@ impl Output {
         }
     }
 
-    // Empties the buffer where nothing is left in it, and gives back memory above what is kept.
+    /// Empties the buffer where nothing is left in it, and gives back memory above what is kept.
     fn give_back(&mut self)
         ensures { self.new ≡ self.old }
     {
@@ -133,7 +133,7 @@ impl Output {
     }
 }
 
-// Takes all bytes out, and gives back the room of a large buffer.
+/// Takes all bytes out, and gives back the room of a large buffer.
 fn empty(bytes: &mut Vec<u8>)
     ensures { bytes.new.items ≡ [] }
 {

@@ -1,7 +1,7 @@
 use Rattle.std.specs.Prelude.{[], ◌∷◌}
-use Rattle.rws_mio.specs.Makers.Making.{TookBack}
-use Rattle.rws_mio.proofs.MakerLemmas.{maker_did_more}
-use Rattle.rws_mio.proofs.list_maker.ListMakerBoardMaker.take_back.Goals as goal
+use Rattle.rws_make.specs.Makers.Making.{TookBack}
+use Rattle.rws_make.proofs.MakerLemmas.{maker_did_more}
+use Rattle.rws_make.proofs.list_maker.ListMakerBoardMaker.take_back.Goals as goal
 
 pub returns-clause-did : goal.returns-clause-did
 returns-clause-did c =

@@ -1,10 +1,10 @@
 //! A maker of boards in memory. It holds the plans of its boards, and all that came back.
 ghost use Rattle.std.specs.Prelude.{◌≡◌, ◌+◌, ◌≤◌, ◌↔◌, ◌∷◌, [], ◌++◌, List, None, length, slice_get, IfOk, IsErr, IsErrOf, MatchResult, OnOk, OnErr, vec_len, vec_capacity};
 ghost use Rattle.rws_board.specs.Faults.{Rises};
-ghost use Rattle.rws_mio.specs.Makers.{CountsBack, Making};
-ghost use Rattle.rws_mio.specs.Makers.Making.{Made, Refused, TookBack};
-ghost use Rattle.rws_mio.specs.Plans.{ListMakerState, ListMakerDid};
-ghost use Rattle.rws_mio.specs.declared.planned_board.PlannedBoard.{PlannedBoard};
+ghost use Rattle.rws_make.specs.Makers.{CountsBack, Making};
+ghost use Rattle.rws_make.specs.Makers.Making.{Made, Refused, TookBack};
+ghost use Rattle.rws_make.specs.Plans.{ListMakerState, ListMakerDid};
+ghost use Rattle.rws_make.specs.declared.planned_board.PlannedBoard.{PlannedBoard};
 
 use crate::{BoardList, BoardMaker, MakeFault, PlannedBoard};
 use rws_config::Config;
@@ -24,7 +24,7 @@ pub struct ListMaker {
 }
 
 impl Model for ListMaker {
-    ghost use Rattle.rws_mio.specs.Plans.{ListMakerState};
+    ghost use Rattle.rws_make.specs.Plans.{ListMakerState};
 
     ghost Value = { ListMakerState };
 
@@ -54,7 +54,7 @@ impl ListMaker {
 }
 
 impl ListMaker {
-    // Makes the board of a place, if there is a plan for it.
+    /// Makes the board of a place, if there is a plan for it.
     fn put_out(&mut self, place: u32) -> Result<PlannedBoard, MakeFault>
         ensures did { MatchResult result
             (λ board. ListMakerDid self.old self.new (Made place board ∷ []))
@@ -80,7 +80,7 @@ impl ListMaker {
         Ok(board)
     }
 
-    // Keeps a board that comes back.
+    /// Keeps a board that comes back.
     fn put_away(&mut self, board: PlannedBoard)
         requires { 1 ≤ self.old.lent }
         ensures did { ListMakerDid self.old self.new (TookBack board ∷ []) }
@@ -137,14 +137,14 @@ impl BoardMaker for ListMaker {
     ghost did_nothing = { λ maker. record { plans = refl; asked = sym (append-nil maker.asked); back = sym (append-nil maker.back); planned = tt } };
 }
 
-// One more than a count of boards.
+/// One more than a count of boards.
 fn one_board_more(count: usize) -> Result<usize, AllocError>
     ensures { IfOk result (λ more. more ≡ count + 1) }
 {
     count.checked_add(1).ok_or(AllocError)
 }
 
-// Remembers that a place was asked for.
+/// Remembers that a place was asked for.
 fn note(asked: &mut Vec<u32>, place: u32) -> Result<(), AllocError>
     ensures ok { OnOk result (asked.new.items ≡ asked.old.items ++ place ∷ []) }
     ensures err { OnErr result (asked.new.items ≡ asked.old.items) }
@@ -154,7 +154,7 @@ fn note(asked: &mut Vec<u32>, place: u32) -> Result<(), AllocError>
 }
 
 /// A maker's count of faults after a board came back with this count of its own.
-pub(crate) fn with_board(faults: u64, board: u64) -> u64
+pub fn with_board(faults: u64, board: u64) -> u64
     ensures { CountsBack board faults result }
 {
     if board == 0 {

@@ -1,8 +1,8 @@
 -- What makers of boards do.
 use Rattle.std.specs.Prelude.{◌≡◌, ◌≢◌, ◌+◌, ℕ, List, [], ◌∷◌, ⊤}
 use Rattle.rws_board.specs.Faults.{Rises}
-use Rattle.rws_mio.specs.declared.board_maker.MakeFault.{MakeFault}
-use Rattle.rws_mio.specs.declared.board_maker.MakeFault.TheVariants.{Failed, OutOfMemory}
+use Rattle.rws_make.specs.declared.board_maker.MakeFault.{MakeFault}
+use Rattle.rws_make.specs.declared.board_maker.MakeFault.TheVariants.{Failed, OutOfMemory}
 
 -- one thing that a maker did: it made a board for a place, it made none there, or it took a board back
 pub data Making (B : Type 0) : Type 0 where

@@ -1,6 +1,6 @@
 //! Scrambles, which no one can foresee.
-ghost use Rattle.std.specs.Prelude.{IfOk};
-ghost use Rattle.rws_mio.specs.Outside.{HasNoZero};
+ghost use Rattle.std.specs.Prelude.{◌≡◌, ◌≤◌, IfOk, OnOk};
+ghost use Rattle.rws_make.specs.Zeros.{HasNoZero};
 
 use std::io::Read;
 use std::rt::Files;
@@ -14,14 +14,16 @@ const DRAWN_AT_ONCE: usize = 32 * DRAWN;
 
 /// Random bytes that were drawn and aren't used up.
 #[derive(Drop)]
-pub(crate) struct Scrambles {
+pub struct Scrambles {
     drawn: [u8; DRAWN_AT_ONCE],
     used: usize,
 }
 
 impl Scrambles {
     /// Nothing is drawn yet.
-    pub fn new() -> Scrambles {
+    pub fn new() -> Scrambles
+        ensures { result.used ≡ 1280 }
+    {
         Scrambles {
             drawn: [0; DRAWN_AT_ONCE],
             used: DRAWN_AT_ONCE,
@@ -30,7 +32,10 @@ impl Scrambles {
 
     /// A scramble of bytes that were in none before. It fails where the system gives no random bytes.
     pub fn draw<R: Files>(&mut self, rt: &R) -> io::Result<[u8; 20]>
-        ensures { IfOk result HasNoZero }
+        ensures zeros { IfOk result HasNoZero }
+
+        // The bytes of this scramble are among those that are used.
+        ensures used { OnOk result (40 ≤ self.new.used) }
     {
         if self.used > DRAWN_AT_ONCE - DRAWN {
             fs::open(rt, "/dev/urandom")?.read_exact(&mut self.drawn)?;

@@ -1,12 +1,12 @@
 -- What a maker in memory did, and then did more.
 use Rattle.std.specs.Prelude.{◌≡◌, ℕ, List, [], ◌∷◌, ◌++◌, Result, Ok, Err, MatchResult, refl}
 use Rattle.std.proofs.Common.{sym, ◌∙◌, ap, subst, append_assoc, append-nil}
-use Rattle.rws_mio.specs.Makers.{Making, boards_back, places_asked}
-use Rattle.rws_mio.specs.Makers.Making.{Made, Refused, TookBack}
-use Rattle.rws_mio.specs.Plans.{ArePlanned, ListMakerDid, ListMakerState, Plan}
-use Rattle.rws_mio.specs.declared.board_maker.MakeFault.{MakeFault}
-use Rattle.rws_mio.specs.declared.board_maker.MakeFault.TheVariants.{Failed, OutOfMemory}
-use Rattle.rws_mio.specs.declared.planned_board.PlannedBoard.{PlannedBoard}
+use Rattle.rws_make.specs.Makers.{Making, boards_back, places_asked}
+use Rattle.rws_make.specs.Makers.Making.{Made, Refused, TookBack}
+use Rattle.rws_make.specs.Plans.{ArePlanned, ListMakerDid, ListMakerState, Plan}
+use Rattle.rws_make.specs.declared.board_maker.MakeFault.{MakeFault}
+use Rattle.rws_make.specs.declared.board_maker.MakeFault.TheVariants.{Failed, OutOfMemory}
+use Rattle.rws_make.specs.declared.planned_board.PlannedBoard.{PlannedBoard}
 
 places_asked-append : (xs ys : List (Making PlannedBoard)) → places_asked (xs ++ ys) ≡ places_asked xs ++ places_asked ys
 places_asked-append [] ys = refl

@@ -1,12 +1,12 @@
 //! The clock of a board.
-ghost use Rattle.std.specs.Prelude.{◌≡◌, ◌≤◌};
+ghost use Rattle.std.specs.Prelude.{◌≡◌, ◌≤◌, ◌+◌, ◌-◌, ◌^◌, max, min};
 
 use rws_board::BoardFault;
 use std::time::{Clock, Instant};
 
 /// The clock of a board, in milliseconds from when the board was made.
 #[derive(Drop)]
-pub(crate) struct Timer {
+pub struct Timer {
     start: Instant,
     /// What the last `Clock` showed, and 0 before the first.
     pub reading: u64,
@@ -28,12 +28,15 @@ impl Timer {
     }
 
     /// How long it still is from `now` until a `Clock` is due that comes `wait_ms` after the last one.
-    pub fn left(&self, now: u64, wait_ms: u64) -> u64 {
+    pub fn left(&self, now: u64, wait_ms: u64) -> u64
+        ensures { result ≡ min (self.now.reading + wait_ms) (2 ^ 64 - 1) - now }
+    {
         self.reading.saturating_add(wait_ms).saturating_sub(now)
     }
 
     /// Takes a reading, which isn't below the last one.
     pub fn read(&mut self, now: u64) -> u64
+        ensures exact { result ≡ max self.old.reading now }
         ensures rises { self.old.reading ≤ result }
         ensures kept { self.new.reading ≡ result }
     {

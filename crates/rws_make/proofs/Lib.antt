@@ -1,0 +1,2 @@
+-- What makers did.
+pub mod MakerLemmas

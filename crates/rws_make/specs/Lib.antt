@@ -1,0 +1,4 @@
+pub mod Makers
+pub mod Plans
+pub mod Unsent
+pub mod Zeros
